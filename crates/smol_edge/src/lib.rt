@@ -4,9 +4,15 @@
 mod failed;
 mod gate;
 mod outlets;
+mod put;
 mod source;
+mod take;
+mod take_fault;
 
 pub use failed::Failed;
 pub use gate::{Gate, Open};
 pub use outlets::Outlets;
+pub use put::put_all;
 pub use source::Source;
+pub use take::take_all;
+pub use take_fault::TakeFault;

@@ -1,0 +1,49 @@
+use crate::Failed;
+use std::alloc::AllocError;
+use std::error::Error;
+use std::fmt;
+
+/// Why the bytes of a source were not taken.
+#[derive(Clone, Copy, Debug, PartialEq, Eq)]
+pub enum TakeFault {
+    /// A read failed.
+    ReadFault,
+    /// More bytes were left than the limit.
+    TooLong,
+    /// There was no memory for the bytes.
+    OutOfMemory,
+}
+
+impl fmt::Display for TakeFault {
+    fn fmt<W: fmt::Write>(&self, f: &mut fmt::Formatter<W>) -> fmt::Result {
+        match self {
+            TakeFault::ReadFault => write!(f, "a read failed"),
+            TakeFault::TooLong => write!(f, "there are too many bytes"),
+            TakeFault::OutOfMemory => write!(f, "out of memory"),
+        }
+    }
+}
+
+impl Error for TakeFault {}
+
+impl From<Failed> for TakeFault {
+    ghost use Rattle.std.specs.Prelude.{◌≡◌};
+    ghost use Rattle.smol_edge.specs.declared.take_fault.TakeFault.TheVariants.{ReadFault};
+
+    ghost from_gives = { λ _ fault. fault ≡ ReadFault };
+
+    fn from(_failed: Failed) -> TakeFault {
+        TakeFault::ReadFault
+    }
+}
+
+impl From<AllocError> for TakeFault {
+    ghost use Rattle.std.specs.Prelude.{◌≡◌};
+    ghost use Rattle.smol_edge.specs.declared.take_fault.TakeFault.TheVariants.{OutOfMemory};
+
+    ghost from_gives = { λ _ fault. fault ≡ OutOfMemory };
+
+    fn from(_error: AllocError) -> TakeFault {
+        TakeFault::OutOfMemory
+    }
+}
