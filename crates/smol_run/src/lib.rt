@@ -1,0 +1,12 @@
+//! The whole program but for its real outside: from the words of the command line to the bytes on the outlets.
+#![tactic(auto)]
+
+mod counting;
+mod names;
+mod program;
+mod status;
+mod words;
+
+pub use program::run_program;
+pub use status::Status;
+pub use words::{Job, WordFault, read_words};

@@ -1,0 +1,54 @@
+//! What counts as a name in a configuration.
+ghost use Rattle.std.specs.Prelude.{◌≡◌};
+ghost use Rattle.std.specs.List.{list_all};
+ghost use Rattle.std.specs.Str.{bytes_eq};
+ghost use Rattle.smol_run.specs.Names.{is_letter, continues_name, is_reserved, is_name};
+
+fn is_letter(byte: u8) -> bool
+    ensures { result ≡ is_letter byte }
+{
+    byte.is_ascii_alphabetic()
+}
+
+fn continues_name(byte: u8) -> bool
+    ensures { result ≡ continues_name byte }
+{
+    is_letter(byte) || byte.is_ascii_digit() || byte == b'_'
+}
+
+fn all_continue(bytes: &[u8]) -> bool
+    ensures { result ≡ list_all continues_name bytes.now }
+{
+    bytes.iter().all(|byte| continues_name(*byte))
+}
+
+/// Whether a word is this text.
+pub fn spells(word: &[u8], text: &str) -> bool
+    ensures { result ≡ bytes_eq word.now text.now }
+{
+    word == text.as_bytes()
+}
+
+fn is_reserved(word: &[u8]) -> bool
+    ensures { result ≡ is_reserved word.now }
+{
+    spells(word, "all")
+        || spells(word, "empty")
+        || spells(word, "front")
+        || spells(word, "back")
+        || spells(word, "both")
+        || spells(word, "stdout")
+        || spells(word, "stderr")
+}
+
+/// Whether the word may name a species, a surface and so on.
+pub fn is_name(word: &[u8]) -> bool
+    ensures { result ≡ is_name word.now }
+{
+    match word.split_first() {
+        None => false,
+        Some((first, rest)) => {
+            is_letter(*first) && all_continue(rest) && rest.len() < 64 && !is_reserved(word)
+        }
+    }
+}
