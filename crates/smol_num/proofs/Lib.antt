@@ -1,1 +1,4 @@
 pub mod DigitsLemmas
+pub mod Tens
+pub mod Places
+pub mod DecimalLemmas

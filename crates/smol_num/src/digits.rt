@@ -26,7 +26,7 @@ pub fn read_digits(bytes: &[u8], max: u64) -> Result<u64, NumFault>
 }
 
 /// The number that the digits spell, or nothing where a byte is no digit.
-fn value_of(digits: &[u8]) -> Option<u128>
+pub(crate) fn value_of(digits: &[u8]) -> Option<u128>
     requires { length digits.now ≤ 38 }
     ensures { result ≡ (if list_all is_digit digits.now then Some (digits_value digits.now) else None) }
 {

@@ -1,10 +1,14 @@
 //! Numbers as they are written and as they are counted: decimals, counts, millionths and billionths.
 #![tactic(auto)]
 
+mod decimal;
 mod digits;
 mod num_fault;
 mod quantities;
+mod root;
 
+pub use decimal::read_decimal;
 pub use digits::read_digits;
 pub use num_fault::NumFault;
 pub use quantities::{Micro, Threshold, Ticks};
+pub use root::isqrt;
