@@ -1,3 +1,5 @@
 pub mod Faults
 pub mod Source
 pub mod Outlets
+pub mod MemSource
+pub mod MemFile

@@ -1,8 +1,13 @@
 //! The edge of the program: where bytes come from, where they go, and where a worker may be held.
 #![tactic(auto)]
 
+mod calls;
 mod failed;
 mod gate;
+mod mem_file;
+mod mem_files;
+mod mem_source;
+mod names;
 mod outlets;
 mod put;
 mod source;
@@ -11,6 +16,7 @@ mod take_fault;
 
 pub use failed::Failed;
 pub use gate::{Gate, Open};
+pub use mem_source::MemSource;
 pub use outlets::Outlets;
 pub use put::put_all;
 pub use source::Source;
