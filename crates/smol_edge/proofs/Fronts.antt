@@ -29,6 +29,6 @@ pub drop-split : (bytes copied tail : List ℕ) (place n : ℕ) → n ≤ length
 drop-split bytes copied tail place n within is =
     let whole : length copied ≡ n = rw is (length-take-le n (drop place bytes) within) in
     let front : take n (copied ++ tail) ≡ copied =
-      ap (λ k. take k (copied ++ tail)) (sym whole) ∙ take-append_seam copied tail in
+    ap (λ k. take k (copied ++ tail)) (sym whole) ∙ take-append_seam copied tail in
     let behind : drop (place + n) bytes ≡ drop n (drop place bytes) = sym (drop-drop n place bytes) in
     rw (front, is, behind) (sym (take-append-drop n (drop place bytes)))

@@ -1,7 +1,8 @@
 -- A source in memory, as contracts see it.
-use Rattle.std.specs.Prelude.{◌≡◌, ◌⊎◌, ℕ, ◌+◌, List, [], ◌∷◌, Option, None, Some, if◌then◌else◌, Contains}
+use Rattle.std.specs.Prelude.{◌≡◌, ◌⊎◌, ℕ, List, [], ◌∷◌, Option, None, Some, if◌then◌else◌}
 use Rattle.std.specs.Str.{bytes_eq}
 use Rattle.smol_edge.specs.Faults.{RoseByOne}
+use Rattle.smol_edge.specs.Calls.{IsNumbered}
 use Rattle.smol_edge.specs.Source.{Reading}
 
 -- a file
@@ -28,10 +29,6 @@ contents_of (file ∷ files) name = if bytes_eq file.name name then Some file.by
 abbrev pub reading_of : SourceState → Reading
 reading_of source = record { contents = contents_of source.files; left = source.left; asked = source.asked }
 
--- the next call is one that is to fail, counted from 1 over openings and reads
-abbrev pub IsNumbered : SourceState → Type 0
-IsNumbered source = Contains source.fails (source.calls + 1)
-
 -- the call was counted, and the files and the numbers are as they were
 pub record Counts (before after : SourceState) : Type 0 where
   pub files : after.files ≡ before.files
@@ -42,4 +39,4 @@ pub record Counts (before after : SourceState) : Type 0 where
 -- asked for, which then stay
 abbrev pub MayFailToOpen : List ℕ → SourceState → SourceState → Type 0
 MayFailToOpen name before after =
-    IsNumbered before ⊎ ((contents_of before.files name ≡ None) ⊎ (after.asked ≡ before.asked))
+    IsNumbered before.fails before.calls ⊎ ((contents_of before.files name ≡ None) ⊎ (after.asked ≡ before.asked))

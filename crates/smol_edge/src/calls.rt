@@ -1,5 +1,6 @@
 //! Calls that are counted, and that fail by their number.
-ghost use Rattle.std.specs.Prelude.{◌≡◌, ◌+◌, ◌≤◌, ◌↔◌, IsTrue, IfOk, Contains};
+ghost use Rattle.std.specs.Prelude.{◌≡◌, ◌+◌, ◌≤◌, ◌↔◌, IsTrue, IfOk};
+ghost use Rattle.smol_edge.specs.Calls.{IsNumbered};
 ghost use Rattle.smol_edge.specs.Faults.{RoseByOne};
 
 use crate::Failed;
@@ -18,7 +19,7 @@ pub(crate) struct Calls {
 
 // Whether the call after these many is among the numbers.
 fn is_next(numbers: &[u32], made: u64) -> bool
-    ensures { IsTrue result ↔ Contains numbers.now (made + 1) }
+    ensures { IsTrue result ↔ IsNumbered numbers.now made }
 {
     match u32::try_from(made) {
         Ok(made) if made < u32::MAX => numbers.contains(&(made + 1)),
@@ -41,7 +42,7 @@ impl Calls {
 
     /// Counts a call, and answers whether it is to fail.
     pub fn begin(&mut self) -> bool
-        ensures numbered { IsTrue result ↔ Contains self.old.fails.items (self.old.made + 1) }
+        ensures numbered { IsTrue result ↔ IsNumbered self.old.fails.items self.old.made }
         ensures counted { RoseByOne self.old.made self.new.made }
         ensures faults_stay { self.new.faults ≡ self.old.faults }
         ensures numbers_stay { self.new.fails.items ≡ self.old.fails.items }

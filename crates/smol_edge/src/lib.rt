@@ -6,6 +6,7 @@ mod failed;
 mod gate;
 mod mem_file;
 mod mem_files;
+mod mem_outlets;
 mod mem_source;
 mod names;
 mod outlets;
@@ -16,6 +17,7 @@ mod take_fault;
 
 pub use failed::Failed;
 pub use gate::{Gate, Open};
+pub use mem_outlets::MemOutlets;
 pub use mem_source::MemSource;
 pub use outlets::Outlets;
 pub use put::put_all;

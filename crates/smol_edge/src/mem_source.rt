@@ -2,7 +2,8 @@
 ghost use Rattle.std.specs.Prelude.{◌≡◌, ◌<◌, ◌≤◌, ◌↔◌, ◌∷◌, [], ℕ, length, take, Some, None, IfOk, OnOk, OnErr, IfSome, IsErr, IsSome, min};
 ghost use Rattle.smol_edge.specs.Faults.{Rose, RoseByOne, Tells};
 ghost use Rattle.smol_edge.specs.Source.{Opens, FailsToOpen, Takes};
-ghost use Rattle.smol_edge.specs.MemSource.{contents_of, reading_of, IsNumbered, Counts, MayFailToOpen};
+ghost use Rattle.smol_edge.specs.Calls.{IsNumbered};
+ghost use Rattle.smol_edge.specs.MemSource.{contents_of, reading_of, Counts, MayFailToOpen};
 
 use crate::calls::Calls;
 use crate::mem_file::MemFile;
@@ -85,7 +86,7 @@ impl Source for MemSource {
         ensures cause { OnErr result (Rose self.old.faults self.new.faults) }
 
         // It fails at its numbers and at unknown names, and nowhere else but for want of memory.
-        ensures numbered { IsNumbered self.old → IsErr result }
+        ensures numbered { IsNumbered self.old.fails self.old.calls → IsErr result }
         ensures fails_only { OnErr result (MayFailToOpen name.now self.old self.new) }
 
         ensures counted { Counts self.old self.new }
@@ -118,7 +119,7 @@ impl Source for MemSource {
         ensures cause { OnErr result (Rose self.old.faults self.new.faults) }
 
         // It fails at its numbers alone, and else takes as many bytes as fit.
-        ensures numbered { IsErr result ↔ IsNumbered self.old }
+        ensures numbered { IsErr result ↔ IsNumbered self.old.fails self.old.calls }
         ensures as_many_as_fit { IfOk result (λ n. n ≡ min (length buf.old) (length self.old.left)) }
 
         ensures counted { Counts self.old self.new }

@@ -10,8 +10,8 @@ returns-clause-taken c =
     let within = rw left at c.min-count.ensures in
     let copied = rw left at c.copy_from_slice.ensures.after in
     rw (← c.self.view_is)
-      (record {
-        contents = refl;
-        asked = refl;
-        left = drop-split (bytes_at c.self.inside.files.items c.self.inside.place) c.copy_from_slice.new.self _ c.self.inside.position c.min-count.result (omega (arith, within)) copied;
-      })
+    (record {
+      contents = refl;
+      asked = refl;
+      left = drop-split (bytes_at c.self.inside.files.items c.self.inside.place) c.copy_from_slice.new.self _ c.self.inside.position c.min-count.result (omega (arith, within)) copied;
+    })
