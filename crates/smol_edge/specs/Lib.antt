@@ -6,3 +6,4 @@ pub mod MemSource
 pub mod MemFile
 pub mod MemOutlets
 pub mod OutletBytes
+pub mod RealOutlets

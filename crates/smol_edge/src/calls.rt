@@ -4,6 +4,7 @@ ghost use Rattle.smol_edge.specs.Calls.{IsNumbered};
 ghost use Rattle.smol_edge.specs.Faults.{RoseByOne};
 
 use crate::Failed;
+use crate::faults::count_fault;
 use std::alloc::{AllocError, Global};
 
 /// The calls that a source or outlets in memory have met. The counts stand still at their last value.
@@ -59,7 +60,6 @@ impl Calls {
         ensures calls_stay { self.new.made ≡ self.old.made }
         ensures numbers_stay { self.new.fails.items ≡ self.old.fails.items }
     {
-        self.faults = self.faults.saturating_add(1);
-        Failed
+        count_fault(&mut self.faults)
     }
 }

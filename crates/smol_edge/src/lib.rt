@@ -3,6 +3,8 @@
 
 mod calls;
 mod failed;
+mod faults;
+mod file_source;
 mod gate;
 mod mem_file;
 mod mem_files;
@@ -11,16 +13,19 @@ mod mem_source;
 mod names;
 mod outlets;
 mod put;
+mod real_outlets;
 mod source;
 mod take;
 mod take_fault;
 
 pub use failed::Failed;
+pub use file_source::FileSource;
 pub use gate::{Gate, Open};
 pub use mem_outlets::MemOutlets;
 pub use mem_source::MemSource;
 pub use outlets::Outlets;
 pub use put::put_all;
+pub use real_outlets::RealOutlets;
 pub use source::Source;
 pub use take::take_all;
 pub use take_fault::TakeFault;
