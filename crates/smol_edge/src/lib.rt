@@ -17,6 +17,8 @@ mod real_outlets;
 mod source;
 mod take;
 mod take_fault;
+#[cfg(test)]
+mod tests;
 
 pub use failed::Failed;
 pub use file_source::FileSource;

@@ -1,5 +1,5 @@
 //! Outlets in memory.
-ghost use Rattle.std.specs.Prelude.{◌≡◌, ◌+◌, ◌^◌, ◌<◌, ◌≤◌, ◌∷◌, ◌++◌, [], ℕ, List, length, take, map, min, Some, IfOk, OnOk, OnErr, IsErr, vec_len, slice_index_or, slice_set};
+ghost use Rattle.std.specs.Prelude.{◌≡◌, ◌+◌, ◌^◌, ◌<◌, ◌≤◌, ◌∷◌, ◌++◌, [], ℕ, List, length, take, map, min, Some, IfOk, OnOk, OnErr, IsErr, vec_len, slice_index_or, slice_set, string_bytes};
 ghost use Rattle.smol_edge.specs.Faults.{Rose, RoseByOne};
 ghost use Rattle.smol_edge.specs.Outlets.{Names, Appends};
 ghost use Rattle.smol_edge.specs.Calls.{IsNumbered};
@@ -84,6 +84,13 @@ impl MemOutlets {
         ensures { result.now ≡ bytes_of self.now outlet }
     {
         &self.outlets[outlet as usize]
+    }
+
+    /// The names opened, in order.
+    pub fn names(&self) -> &[String]
+        ensures { map string_bytes result.now ≡ self.now.names }
+    {
+        &self.names
     }
 }
 
