@@ -1,4 +1,4 @@
-use Rattle.std.proofs.Common.{◌≡◌, ◌<◌, ◌∙◌, ap, ℕ, List, Vec, Global, length, arith}
+use Rattle.std.proofs.Common.{◌<◌, ◌∙◌, ap, ℕ, Vec, Global, length, arith}
 use Rattle.std.proofs.Math.Seq.{map-set_same}
 use Rattle.smol_edge.proofs.Telling.{OnErr-always}
 use Rattle.smol_edge.proofs.OutletBytes.{map-set-longer}

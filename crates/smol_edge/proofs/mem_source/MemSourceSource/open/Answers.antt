@@ -1,4 +1,4 @@
-use Rattle.std.proofs.Common.{◌≡◌, inl}
+use Rattle.std.proofs.Common.{inl}
 use Rattle.smol_edge.proofs.mem_source.MemSourceSource.open.Goals as goal
 
 -- the call was numbered

@@ -1,4 +1,4 @@
-use Rattle.std.proofs.Common.{◌≡◌, ◌≤◌, length, refl, ap, ◌∙◌, arith, drop}
+use Rattle.std.proofs.Common.{refl, arith}
 use Rattle.smol_edge.specs.MemFile.{bytes_at}
 use Rattle.smol_edge.proofs.Fronts.{drop-split}
 use Rattle.smol_edge.proofs.mem_source.MemSourceSource.read.Goals as goal
