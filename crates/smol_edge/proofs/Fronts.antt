@@ -1,5 +1,7 @@
 -- Taking fronts of what is left, one after another.
-use Rattle.std.proofs.Common.{ℕ, List, [], ◌++◌, refl, sym, ◌∙◌, ap, append_assoc, ◌+◌, length, length-append}
+use Rattle.std.proofs.Common.{◌≡◌, ℕ, List, [], ◌++◌, refl, sym, ◌∙◌, ap, append_assoc, ◌+◌, ◌≤◌, take, drop, length, length-append}
+use Rattle.std.proofs.lemmas.List.{length-take-le, take-append-drop, drop-drop}
+use Rattle.std.proofs.Math.Seq.{take-append_seam}
 use Rattle.smol_edge.specs.Source.{Reading, Takes, TakesFront}
 
 -- taking nothing
@@ -21,3 +23,12 @@ TakesFront-after xs a b c P Q longer first second = record {
   takes = Takes-then xs second.front a b c first second.takes;
   length_is = rw length-append (longer (length second.front) second.length_is);
 }
+
+-- the bytes from a place on are the front that was copied and the bytes from behind it on
+pub drop-split : (bytes copied tail : List ℕ) (place n : ℕ) → n ≤ length (drop place bytes) → copied ≡ take n (drop place bytes) → drop place bytes ≡ take n (copied ++ tail) ++ drop (place + n) bytes
+drop-split bytes copied tail place n within is =
+    let whole : length copied ≡ n = rw is (length-take-le n (drop place bytes) within) in
+    let front : take n (copied ++ tail) ≡ copied =
+    ap (λ k. take k (copied ++ tail)) (sym whole) ∙ take-append_seam copied tail in
+    let behind : drop (place + n) bytes ≡ drop n (drop place bytes) = sym (drop-drop n place bytes) in
+    rw (front, is, behind) (sym (take-append-drop n (drop place bytes)))

@@ -1,3 +1,5 @@
 pub mod Telling
 pub mod Pieces
 pub mod Fronts
+pub mod Files
+pub mod OutletBytes

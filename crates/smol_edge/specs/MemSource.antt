@@ -1,0 +1,42 @@
+-- A source in memory, as contracts see it.
+use Rattle.std.specs.Prelude.{◌≡◌, ◌⊎◌, ℕ, List, [], ◌∷◌, Option, None, Some, if◌then◌else◌}
+use Rattle.std.specs.Str.{bytes_eq}
+use Rattle.smol_edge.specs.Faults.{RoseByOne}
+use Rattle.smol_edge.specs.Calls.{IsNumbered}
+use Rattle.smol_edge.specs.Source.{Reading}
+
+-- a file
+pub record File : Type 0 where
+  pub name : List ℕ
+  pub bytes : List ℕ
+
+-- the files, the bytes left of the one that is open, the names asked for so far,
+-- the numbers of the calls that are to fail, and how many calls were made and have failed
+pub record SourceState : Type 0 where
+  pub files : List File
+  pub left : List ℕ
+  pub asked : List (List ℕ)
+  pub fails : List ℕ
+  pub calls : ℕ
+  pub faults : ℕ
+
+-- the bytes of the first file of that name
+abbrev pub contents_of : List File → List ℕ → Option (List ℕ)
+contents_of [] name = None
+contents_of (file ∷ files) name = if bytes_eq file.name name then Some file.bytes else contents_of files name
+
+-- what it tells of itself
+abbrev pub reading_of : SourceState → Reading
+reading_of source = record { contents = contents_of source.files; left = source.left; asked = source.asked }
+
+-- the call was counted, and the files and the numbers are as they were
+pub record Counts (before after : SourceState) : Type 0 where
+  pub files : after.files ≡ before.files
+  pub fails : after.fails ≡ before.fails
+  pub calls : RoseByOne before.calls after.calls
+
+-- an opening may fail for its number, for a name that no file has, or for want of memory for the names
+-- asked for, which then stay
+abbrev pub MayFailToOpen : List ℕ → SourceState → SourceState → Type 0
+MayFailToOpen name before after =
+    IsNumbered before.fails before.calls ⊎ ((contents_of before.files name ≡ None) ⊎ (after.asked ≡ before.asked))
