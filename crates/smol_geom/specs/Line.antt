@@ -1,5 +1,5 @@
 -- Straight lines, whose points are reached at a fraction of the way.
-use Rattle.std.specs.Prelude.{ℕ, List, ℤ, pos, ◌-ℤ◌}
+use Rattle.std.specs.Prelude.{ℕ, List, ◌⊎◌, ℤ, pos, ◌-ℤ◌, ◌<ℤ◌}
 use Rattle.smol_geom.specs.declared.place.Place.{Place}
 use Rattle.smol_geom.specs.declared.rect.Rect.{Rect}
 use Rattle.smol_geom.specs.Axes.{on_axis}
@@ -22,3 +22,7 @@ line_point a b t axis = part_way (on_axis a.0 axis) (on_axis b.0 axis -ℤ on_ax
 abbrev pub LineMeets : Rect → Place → Place → Type 0
 LineMeets rect a b =
     (t : Fraction) × IsNumber t × (whole (pos 0) ≤ℚ t) × (t ≤ℚ whole (pos 1)) × HoldsPoint rect (line_point a b t)
+
+-- the first number lies between the other two, and is neither of them
+abbrev pub IsStrictlyBetween : ℤ → ℤ → ℤ → Type 0
+IsStrictlyBetween x a b = ((a <ℤ x) × (x <ℤ b)) ⊎ ((b <ℤ x) × (x <ℤ a))

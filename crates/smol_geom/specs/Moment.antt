@@ -1,8 +1,7 @@
 -- Moments of a move: at which part of the move a molecule is on an even coordinate of an axis.
-use Rattle.std.specs.Prelude.{ℕ, ◌<◌, ◌≤◌, ◌^◌, ◌⊎◌, ℤ, pos, ◌*ℤ◌, List}
+use Rattle.std.specs.Prelude.{◌<◌, ◌≤◌, ◌^◌, ◌⊎◌, pos}
 use Rattle.smol_geom.specs.declared.moment.Moment.{Moment}
-use Rattle.smol_geom.specs.Fraction.{Fraction, IsNumber, whole, ◌<ℚ◌, ◌≈ℚ◌}
-use Rattle.smol_geom.specs.Line.{move_point}
+use Rattle.smol_geom.specs.Fraction.{Fraction, ◌<ℚ◌, ◌≈ℚ◌}
 
 -- the part of the move that is made at the moment
 abbrev pub part_of : Moment → Fraction

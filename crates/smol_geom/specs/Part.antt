@@ -1,5 +1,5 @@
 -- Parts of a way, as the code holds them.
-use Rattle.std.specs.Prelude.{ℕ, ◌≤◌, ◌^◌, ℤ, pos, ◌+ℤ◌, ◌*ℤ◌}
+use Rattle.std.specs.Prelude.{◌≤◌, ◌^◌, ℤ, pos, ◌+ℤ◌, ◌*ℤ◌}
 use Rattle.smol_geom.specs.declared.part.Part.{Part}
 use Rattle.smol_geom.specs.Fraction.{Fraction}
 

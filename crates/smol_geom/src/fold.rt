@@ -56,26 +56,32 @@ fn folded_step(f: &Fold, step: &Step3) -> [i64; 3]
     requires fold { IsFold f.now }
     requires step { IsWithin (2 ^ 58) step.now.0 }
     ensures value { EachAxis (λ axis. on_axis result axis ≡ on_axis f.now.sign axis *ℤ on_axis step.now.0 axis) }
-    ensures size { IsWithin (2 ^ 59) result }
+    ensures size { IsWithin (2 ^ 58) result }
 {
     [
-        folded(f.sign[0], step.0[0], 0),
-        folded(f.sign[1], step.0[1], 0),
-        folded(f.sign[2], step.0[2], 0),
+        turned(f.sign[0], step.0[0]),
+        turned(f.sign[1], step.0[1]),
+        turned(f.sign[2], step.0[2]),
     ]
 }
 
-// The number, turned where the sign is -1, and the shift added.
-fn folded(sign: i8, number: i64, shift: i64) -> i64
+// The coordinate that a sign and a shift carry a coordinate to.
+fn folded(sign: i8, coordinate: i64, shift: i64) -> i64
     requires sign { IsSign sign }
-    requires number { unsigned_abs number ≤ 2 ^ 58 }
+    requires coordinate { unsigned_abs coordinate ≤ 2 ^ 58 }
     requires shift { unsigned_abs shift ≤ 2 ^ 58 }
-    ensures value { result ≡ sign *ℤ number +ℤ shift }
+    ensures value { result ≡ sign *ℤ coordinate +ℤ shift }
     ensures size { unsigned_abs result ≤ 2 ^ 59 }
 {
-    if sign < 0 {
-        shift - number
-    } else {
-        shift + number
-    }
+    turned(sign, coordinate) + shift
+}
+
+// The number, turned where the sign is -1.
+fn turned(sign: i8, number: i64) -> i64
+    requires sign { IsSign sign }
+    requires number { unsigned_abs number ≤ 2 ^ 58 }
+    ensures value { result ≡ sign *ℤ number }
+    ensures size { unsigned_abs result ≤ 2 ^ 58 }
+{
+    if sign < 0 { -number } else { number }
 }

@@ -15,3 +15,6 @@ pub use line::meets;
 pub use moment::{Moment, moment_before};
 pub use place::{Place, Step3, dist2};
 pub use rect::Rect;
+
+#[cfg(test)]
+mod tests;

@@ -1,6 +1,6 @@
 ghost use Rattle.std.specs.Prelude.{◌≡◌, ◌↔◌, ◌^◌, ◌≤◌, ◌-ℤ◌, IsTrue};
 ghost use Rattle.smol_geom.specs.Axes.{EachAxis, IsEven, IsOdd, IsWithin, on_axis};
-ghost use Rattle.smol_geom.specs.Line.{LineMeets};
+ghost use Rattle.smol_geom.specs.Line.{IsStrictlyBetween, LineMeets};
 ghost use Rattle.smol_geom.specs.Rect.{IsRect, plane_of};
 
 use crate::part::Part;
@@ -20,16 +20,22 @@ pub fn meets(rect: &Rect, a: &Place, b: &Place) -> bool
     requires plane_even { IsEven (plane_of rect.now) }
     ensures { IsTrue result ↔ LineMeets rect.now a.now b.now }
 {
-    let axis = usize::from(rect.axis);
+    let axis = rect.axis as usize;
     let plane = rect.low[axis];
     let start = a.0[axis];
     let end = b.0[axis];
-    let passes = (start < plane && plane < end) || (end < plane && plane < start);
     let part = Part {
         num: plane.abs_diff(start),
         den: end.abs_diff(start),
     };
-    passes && part.is_held(rect, a.0, way(a, b))
+    lies_between(plane, start, end) && part.is_held(rect, a.0, way(a, b))
+}
+
+// Whether the plane lies strictly between the coordinates of two places.
+fn lies_between(plane: i64, start: i64, end: i64) -> bool
+    ensures { IsTrue result ↔ IsStrictlyBetween plane start end }
+{
+    (start < plane && plane < end) || (end < plane && plane < start)
 }
 
 // The way from a to b.
