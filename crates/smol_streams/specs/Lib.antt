@@ -1,0 +1,3 @@
+pub mod Displacement
+pub mod Generator
+pub mod Words

@@ -1,0 +1,8 @@
+//! Random words by seed, stream and place, and the displacements that are drawn with them.
+#![tactic(auto)]
+
+mod displacement;
+mod streams;
+
+pub use displacement::scale;
+pub use streams::Streams;
