@@ -1,6 +1,5 @@
 //! Real files as a source.
-ghost use Rattle.std.specs.Prelude.{◌≡◌, ◌≤◌, ◌<◌, ℕ, length, None, IfOk, OnErr};
-ghost use Rattle.smol_edge.specs.Faults.{Rose};
+ghost use Rattle.std.specs.Prelude.{◌≡◌, ℕ, None};
 
 use crate::faults::count_fault;
 use crate::{Failed, Source};

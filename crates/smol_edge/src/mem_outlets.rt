@@ -1,5 +1,5 @@
 //! Outlets in memory.
-ghost use Rattle.std.specs.Prelude.{◌≡◌, ◌+◌, ◌^◌, ◌<◌, ◌≤◌, ◌∷◌, ◌++◌, [], ℕ, List, length, take, map, min, Some, IfOk, OnOk, OnErr, IsErr, vec_len, slice_index_or, slice_set, string_bytes};
+ghost use Rattle.std.specs.Prelude.{◌≡◌, ◌+◌, ◌^◌, ◌<◌, ◌≤◌, ◌∷◌, ◌++◌, [], ℕ, length, take, map, min, Some, IfOk, OnOk, OnErr, IsErr, vec_len, slice_index_or, slice_set, string_bytes};
 ghost use Rattle.smol_edge.specs.Faults.{Rose, RoseByOne};
 ghost use Rattle.smol_edge.specs.Outlets.{Names, Appends};
 ghost use Rattle.smol_edge.specs.Calls.{IsNumbered};

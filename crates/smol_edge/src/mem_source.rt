@@ -1,9 +1,9 @@
 //! A source in memory.
-ghost use Rattle.std.specs.Prelude.{◌≡◌, ◌<◌, ◌≤◌, ◌↔◌, ◌∷◌, [], ℕ, length, take, Some, None, IfOk, OnOk, OnErr, IfSome, IsErr, IsSome, min};
-ghost use Rattle.smol_edge.specs.Faults.{Rose, RoseByOne, Tells};
+ghost use Rattle.std.specs.Prelude.{◌≡◌, ◌<◌, ◌≤◌, ◌↔◌, ◌∷◌, [], length, take, map, string_bytes, Some, IfOk, OnOk, OnErr, IsErr, min};
+ghost use Rattle.smol_edge.specs.Faults.{Rose, RoseByOne};
 ghost use Rattle.smol_edge.specs.Source.{Opens, FailsToOpen, Takes};
 ghost use Rattle.smol_edge.specs.Calls.{IsNumbered};
-ghost use Rattle.smol_edge.specs.MemSource.{contents_of, reading_of, Counts, MayFailToOpen};
+ghost use Rattle.smol_edge.specs.MemSource.{reading_of, Counts, MayFailToOpen};
 
 use crate::calls::Calls;
 use crate::mem_file::MemFile;
@@ -71,6 +71,13 @@ impl MemSource {
             asked: Vec::new(alloc),
             calls,
         })
+    }
+
+    /// The names asked for, in order.
+    pub fn asked(&self) -> &[String]
+        ensures { map string_bytes result.now ≡ self.now.asked }
+    {
+        &self.asked
     }
 }
 

@@ -89,8 +89,6 @@ fn write_text(rt: &impl Eprint, bytes: &[u8]) -> io::Result<usize>
 }
 
 impl<R: Files + Print + Eprint> Outlets for RealOutlets<'_, R> {
-    ghost use Rattle.std.specs.Prelude.{None};
-
     ghost told = { λ _. None };
 
     ghost opened = { λ outlets. outlets.opened };

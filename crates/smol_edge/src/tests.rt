@@ -15,6 +15,9 @@ fn memory_gives_its_bytes(rt: HostRuntime) -> Result<(), Fail> {
     assert_eq!(rt; source.read(&mut buffer)?, 2);
     assert_eq!(rt; source.read(&mut buffer)?, 0);
     assert!(rt; source.open("b").is_err());
+    let asked = source.asked();
+    assert_eq!(rt; asked.len(), 2);
+    assert_eq!(rt; asked[1].as_str(), "b");
     Ok(())
 }
 
@@ -59,8 +62,9 @@ fn memory_keeps_names_and_bytes(rt: HostRuntime) -> Result<(), Fail> {
     assert_eq!(rt; outlets.bytes(2), b"abcghijk".as_slice());
     assert_eq!(rt; outlets.bytes(1), b"!".as_slice());
     assert_eq!(rt; outlets.bytes(0), b"".as_slice());
-    assert_eq!(rt; outlets.names().len(), 1);
-    assert_eq!(rt; outlets.names()[0].as_str(), "log");
+    let names = outlets.names();
+    assert_eq!(rt; names.len(), 1);
+    assert_eq!(rt; names[0].as_str(), "log");
     Ok(())
 }
 
