@@ -2,3 +2,5 @@ pub mod DigitsLemmas
 pub mod Tens
 pub mod Places
 pub mod DecimalLemmas
+pub mod PrintLemmas
+pub mod ReadBack

@@ -4,11 +4,13 @@
 mod decimal;
 mod digits;
 mod num_fault;
+mod print;
 mod quantities;
 mod root;
 
 pub use decimal::read_decimal;
 pub use digits::read_digits;
 pub use num_fault::NumFault;
+pub use print::{write_micro, write_nano};
 pub use quantities::{Micro, Threshold, Ticks};
 pub use root::isqrt;
