@@ -4,3 +4,4 @@ pub mod Places
 pub mod DecimalLemmas
 pub mod PrintLemmas
 pub mod ReadBack
+pub mod GrammarLemmas

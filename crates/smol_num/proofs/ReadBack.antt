@@ -1,5 +1,5 @@
 -- A printed decimal is read back.
-use Rattle.std.proofs.Common.{◌≡◌, ℕ, zero, suc, ◌+◌, ◌-◌, ◌*◌, ◌/◌, ◌%◌, ◌^◌, ◌<◌, ◌≤◌, ◌==◌, ◌++◌, ◌||◌, not, Bool, true, false, cond, leb, ltb, List, [], ◌∷◌, length, take, drop, decimal, ℤ, pos, negsuc, unsigned_abs, Ok, Err, sym, refl, ap, ◌∙◌, subst, inl, inr, arith, append-nil, add-zero}
+use Rattle.std.proofs.Common.{◌&&◌, ◌≡◌, ℕ, zero, suc, ◌+◌, ◌-◌, ◌*◌, ◌/◌, ◌%◌, ◌^◌, ◌<◌, ◌≤◌, ◌==◌, ◌++◌, ◌||◌, not, Bool, true, false, cond, leb, ltb, List, [], ◌∷◌, length, take, drop, decimal, ℤ, pos, negsuc, unsigned_abs, Ok, Err, sym, refl, ap, ◌∙◌, subst, inl, inr, arith, append-nil, add-zero}
 use Rattle.std.specs.List.{list_all, list_any, position_or_len, before_first, after_first}
 use Rattle.std.proofs.lemmas.Bool.{cond_both, and_parts, and_from, leb-true, eqb-true, ne_eqb, le-leb, lt-ltb, or_cases}
 use Rattle.std.proofs.lemmas.Fmt.{digits_decimal, digits_value-decimal, decimal_nonempty}
@@ -44,11 +44,11 @@ or_none : (x y : Bool) → x ≡ false → y ≡ false → (x || y) ≡ false
 or_none x y no_x no_y = ap (λ t. t || y) no_x ∙ no_y
 
 -- digits and points
-abbrev is_plain : ℕ → Bool
+abbrev pub is_plain : ℕ → Bool
 is_plain b = is_digit b || is_point b
 
 -- an element that passes nothing of a list is found nowhere
-nowhere : (p : ℕ → Bool) (q : ℕ → Bool) (xs : List ℕ) → ((x : ℕ) → q x ≡ true → p x ≡ false) → list_all q xs ≡ true → (position_or_len p xs ≡ length xs) × (list_any p xs ≡ false)
+pub nowhere : (p : ℕ → Bool) (q : ℕ → Bool) (xs : List ℕ) → ((x : ℕ) → q x ≡ true → p x ≡ false) → list_all q xs ≡ true → (position_or_len p xs ≡ length xs) × (list_any p xs ≡ false)
 nowhere p q [] apart all = (refl, refl)
 nowhere p q (x ∷ xs) apart all =
     let parts = and_parts (q x) (list_all q xs) all in
@@ -58,7 +58,7 @@ nowhere p q (x ∷ xs) apart all =
       ap (λ t. t || list_any p xs) fails ∙ rest.1,
     )
 
-plain-no_mark : (b : ℕ) → is_plain b ≡ true → is_mark b ≡ false
+pub plain-no_mark : (b : ℕ) → is_plain b ≡ true → is_mark b ≡ false
 plain-no_mark b plain =
     elim (or_cases (is_digit b) (is_point b) plain) [
       | inl digit ↦ or_none (b == 101) (b == 69) (eqb-digit-above b 101 digit (omega arith)) (eqb-digit-above b 69 digit (omega arith))
@@ -72,6 +72,17 @@ drop_past ds fs = sym (drop-drop 1 (length ds) (ds ++ 46 ∷ fs)) ∙ ap (drop 1
 
 digit-no_point : (b : ℕ) → is_digit b ≡ true → is_point b ≡ false
 digit-no_point b digit = eqb-digit b 46 digit (omega arith)
+
+-- nor a sign
+pub plain-no_sign : (b : ℕ) → is_plain b ≡ true → (is_sign b ≡ false) × ((b == 45) ≡ false)
+plain-no_sign b plain =
+    elim (or_cases (is_digit b) (is_point b) plain) [
+      | inl digit ↦ (or_none (b == 43) (b == 45) (eqb-digit b 43 digit (omega arith)) (eqb-digit b 45 digit (omega arith)), eqb-digit b 45 digit (omega arith))
+      | inr point ↦
+          let same : b ≡ 46 = eqb-true b 46 point in
+          let minus : (b == 45) ≡ false = ne_eqb b 45 (λ e. absurd (omega arith)) in
+          (or_none (b == 43) (b == 45) (ne_eqb b 43 (λ e. absurd (omega arith))) minus, minus)
+    ]
 
 -- digits before a point
 position-point : (ds fs : List ℕ) → list_all is_digit ds ≡ true → position_or_len is_point (ds ++ 46 ∷ fs) ≡ length ds
@@ -113,18 +124,18 @@ digits_value-places_text (suc k) rest below =
     goal))
 
 -- a text of digits, a point and digits, or of digits alone
-record Parts (ds fs text : List ℕ) : Type 0 where
-  plain : list_all is_plain text ≡ true
-  before : before_first is_point text ≡ ds
-  after : after_first is_point text ≡ fs
+pub record Parts (ds fs text : List ℕ) : Type 0 where
+  pub plain : list_all is_plain text ≡ true
+  pub before : before_first is_point text ≡ ds
+  pub after : after_first is_point text ≡ fs
 
-plain-digits : (ds : List ℕ) → list_all is_digit ds ≡ true → list_all is_plain ds ≡ true
+pub plain-digits : (ds : List ℕ) → list_all is_digit ds ≡ true → list_all is_plain ds ≡ true
 plain-digits [] all = refl
 plain-digits (d ∷ ds) all =
     let parts = and_parts (is_digit d) (list_all is_digit ds) all in
     and_from (is_plain d) (list_all is_plain ds) (ap (λ t. t || is_point d) parts.0) (plain-digits ds parts.1)
 
-Parts-digits : (ds : List ℕ) → list_all is_digit ds ≡ true → Parts ds [] (ds ++ [])
+pub Parts-digits : (ds : List ℕ) → list_all is_digit ds ≡ true → Parts ds [] (ds ++ [])
 Parts-digits ds all =
     let found = (nowhere is_point is_digit ds digit-no_point all).0 in
     let same = append-nil ds in
@@ -134,7 +145,7 @@ Parts-digits ds all =
       after = ap (λ k. drop (k + 1) ds) found ∙ drop_all (length ds + 1) ds (omega arith);
     })
 
-Parts-point : (ds fs : List ℕ) → list_all is_digit ds ≡ true → list_all is_digit fs ≡ true → Parts ds fs (ds ++ 46 ∷ fs)
+pub Parts-point : (ds fs : List ℕ) → list_all is_digit ds ≡ true → list_all is_digit fs ≡ true → Parts ds fs (ds ++ 46 ∷ fs)
 Parts-point ds fs all all_fs =
     let found = position-point ds fs all in
     record {
@@ -152,11 +163,12 @@ decimal_of-text word text ds fs places size negative parts is_neg unsigned all s
     let is_fraction : fraction word ≡ fs = ap (after_first is_point) is_mantissa_of ∙ parts.after in
     let is_exponent_of : exponent word ≡ [] = ap (after_first is_mark) unsigned ∙ ap (λ k. drop (k + 1) text) unmarked.0 ∙ drop_all (length text + 1) text (omega arith) in
     let no_mark : list_any is_mark (without_sign word) ≡ false = ap (list_any is_mark) unsigned ∙ unmarked.1 in
-    let digits : is_mantissa (whole_part word ++ fraction word) ≡ true =
-    ap (λ w. is_mantissa (w ++ fraction word)) is_whole ∙ ap (λ f. is_mantissa (ds ++ f)) is_fraction
+    let digits : is_mantissa (mantissa word) ≡ true =
+    ap (λ w. ltb 0 (length (w ++ fraction word)) && list_all is_digit (w ++ fraction word)) is_whole
+    ∙ ap (λ f. ltb 0 (length (ds ++ f)) && list_all is_digit (ds ++ f)) is_fraction
     ∙ and_from (ltb 0 (length (ds ++ fs))) (list_all is_digit (ds ++ fs)) (lt-ltb 0 (length (ds ++ fs)) (omega (arith, length-append ds fs))) all in
     let found : is_decimal word ≡ true =
-    and_from (is_mantissa (whole_part word ++ fraction word)) (not (list_any is_mark (without_sign word)) || is_exponent (exponent word)) digits
+    and_from (is_mantissa (mantissa word)) (not (list_any is_mark (without_sign word)) || is_exponent (exponent word)) digits
     (ap (λ t. not t || is_exponent (exponent word)) no_mark) in
     let unit = 10 ^ length fs in
     let unit_some : 0 < unit = one-le-pow (length fs) 10 (omega arith) in
