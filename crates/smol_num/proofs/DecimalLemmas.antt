@@ -1,5 +1,6 @@
 -- A decimal's number, from its parts.
-use Rattle.std.proofs.Common.{◌≡◌, ℕ, ◌+◌, ◌*◌, ◌^◌, ◌++◌, Bool, true, false, cond, List, length, Err, sym, ap, ◌∙◌}
+use Rattle.std.proofs.Common.{Result, ◌≡◌, ℕ, ◌+◌, ◌*◌, ◌^◌, ◌++◌, Bool, true, false, cond, List, length, Err, sym, ap, ◌∙◌}
+use Rattle.smol_num.specs.declared.num_fault.NumFault.{NumFault}
 use Rattle.smol_num.specs.declared.num_fault.NumFault.TheVariants.{NotNumber}
 use Rattle.smol_num.specs.Digits.{digits_value}
 use Rattle.smol_num.specs.Decimal.{is_negative, whole_part, fraction, exponent, is_decimal, raised_by, lowered_by, whole_number, signed_result, decimal_of}
@@ -20,3 +21,8 @@ decimal_of-parts word places negative whole part raised lowered found is_neg is_
     ∙ ap (λ r. signed_result (is_negative word) (whole_number (digits_value (whole_part word ++ fraction word) * 10 ^ (places + r)) (10 ^ (length (fraction word) + lowered)))) is_raised
     ∙ ap (λ l. signed_result (is_negative word) (whole_number (digits_value (whole_part word ++ fraction word) * 10 ^ (places + raised_by (exponent word))) (10 ^ (length (fraction word) + l)))) is_lowered
     ∙ sym (ap (λ t. cond t (signed_result (is_negative word) (whole_number (digits_value (whole_part word ++ fraction word) * 10 ^ (places + raised_by (exponent word))) (10 ^ (length (fraction word) + lowered_by (exponent word))))) (Err NotNumber)) found)
+
+-- the same for the answer that was read
+pub decimal_of-read : (word : List ℕ) (places : ℕ) (negative : Bool) (whole part : List ℕ) (raised lowered : ℕ) (size : Result ℕ NumFault) → is_decimal word ≡ true → negative ≡ is_negative word → whole ≡ whole_part word → part ≡ fraction word → raised ≡ raised_by (exponent word) → lowered ≡ lowered_by (exponent word) → size ≡ whole_number (digits_value (whole ++ part) * 10 ^ (places + raised)) (10 ^ (length part + lowered)) → signed_result negative size ≡ decimal_of word places
+decimal_of-read word places negative whole part raised lowered size found is_neg is_whole is_part is_raised is_lowered is_size =
+    ap (signed_result negative) is_size ∙ decimal_of-parts word places negative whole part raised lowered found is_neg is_whole is_part is_raised is_lowered

@@ -16,7 +16,8 @@ step : (b : Bool) (m n : ℕ) (r : Bool) → ltb m n ≡ r → ltb (cond (not b)
 step true m n r e = lt-ltb 0 (suc n) (omega arith)
 step false m n r e = ltb-suc m n ∙ e
 
-ltb-position_or_len : (p : ℕ → Bool) (xs : List ℕ) → ltb (position_or_len p xs) (length xs) ≡ list_any p xs
+-- the first place that passes is in the list where some element passes
+pub ltb-position_or_len : (p : ℕ → Bool) (xs : List ℕ) → ltb (position_or_len p xs) (length xs) ≡ list_any p xs
 ltb-position_or_len p [] = le-ltb 0 0 (omega arith)
 ltb-position_or_len p (x ∷ xs) = step (p x) (position_or_len p xs) (length xs) (list_any p xs) (ltb-position_or_len p xs)
 

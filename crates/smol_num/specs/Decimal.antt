@@ -43,9 +43,13 @@ fraction word = after_first is_point (mantissa word)
 abbrev pub exponent : List ℕ → List ℕ
 exponent word = after_first is_mark (without_sign word)
 
--- at least one digit, and nothing but digits, before and after the point
+-- a mantissa without its point
+abbrev pub around_point : List ℕ → List ℕ
+around_point bytes = before_first is_point bytes ++ after_first is_point bytes
+
+-- at least one digit, and nothing but digits before and after the point
 abbrev pub is_mantissa : List ℕ → Bool
-is_mantissa digits = nat_lt 0 (length digits) && list_all is_digit digits
+is_mantissa bytes = nat_lt 0 (length (around_point bytes)) && list_all is_digit (around_point bytes)
 
 -- one to three digits, after a sign or none
 abbrev pub is_exponent : List ℕ → Bool
@@ -55,7 +59,7 @@ is_exponent bytes =
 -- a word in the form of a decimal
 abbrev pub is_decimal : List ℕ → Bool
 is_decimal word =
-    is_mantissa (whole_part word ++ fraction word) && (not (list_any is_mark (without_sign word)) || is_exponent (exponent word))
+    is_mantissa (mantissa word) && (not (list_any is_mark (without_sign word)) || is_exponent (exponent word))
 
 -- the power of ten that an exponent multiplies by
 abbrev pub raised_by : List ℕ → ℕ

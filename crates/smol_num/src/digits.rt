@@ -39,3 +39,28 @@ pub(crate) fn value_of(digits: &[u8]) -> Option<u128>
     }
     Some(value)
 }
+
+#[cfg(test)]
+mod tests {
+    use super::*;
+
+    #[test]
+    fn reads_counts(rt: HostRuntime) {
+        assert_eq!(rt; read_digits(b"00007", 7), Ok(7));
+        assert_eq!(rt;
+            read_digits(b"18446744073709551615", u64::MAX),
+            Ok(u64::MAX)
+        );
+        assert_eq!(rt;
+            read_digits(b"18446744073709551616", u64::MAX),
+            Err(NumFault::TooLarge)
+        );
+        assert_eq!(rt; read_digits(b"8", 7), Err(NumFault::TooLarge));
+        assert_eq!(rt;
+            read_digits(b"000000000000000000007", 7),
+            Err(NumFault::NotNumber)
+        );
+        assert_eq!(rt; read_digits(b"+7", 7), Err(NumFault::NotNumber));
+        assert_eq!(rt; read_digits(b"", 7), Err(NumFault::NotNumber));
+    }
+}

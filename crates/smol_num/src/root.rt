@@ -8,3 +8,16 @@ pub fn isqrt(v: u128) -> u64
 {
     v.isqrt() as u64
 }
+
+#[cfg(test)]
+mod tests {
+    use super::*;
+
+    #[test]
+    fn rounds_down(rt: HostRuntime) {
+        assert_eq!(rt; isqrt(0), 0);
+        assert_eq!(rt; isqrt(15), 3);
+        assert_eq!(rt; isqrt(16), 4);
+        assert_eq!(rt; isqrt(u128::MAX), u64::MAX);
+    }
+}

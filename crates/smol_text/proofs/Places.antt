@@ -6,7 +6,7 @@ use Rattle.std.proofs.lemmas.List.{length-drop, drop-drop, take-append-drop, app
 use Rattle.std.proofs.lemmas.List.Elements.{All-nil, All-cons}
 use Rattle.smol_text.specs.declared.line.Line.{Line}
 use Rattle.smol_text.specs.Lines.{is_line_feed, separates, without_empty_last, has_bytes, raw_lines, words, text_words}
-use Rattle.smol_text.specs.Spans.{slice_of, IsWithin, AllWithin, places_of_pieces, places, numbered, lines_of, words_at}
+use Rattle.smol_text.specs.Spans.{slice_of, IsSpanOf, AreSpansOf, places_of_pieces, places, numbered, lines_of, words_at}
 
 -- the pieces stand in the text, the first one at `at`, with one byte between each two
 abbrev pub StandAt : List ℕ → ℕ → List (List ℕ) → Type 0
@@ -54,13 +54,13 @@ map-places_of_pieces text at ((b ∷ bs) ∷ pieces) h =
     cc
 
 -- and each such place is within the text
-pub AllWithin-places_of_pieces : (text : List ℕ) (at : ℕ) (pieces : List (List ℕ)) → StandAt text at pieces → AllWithin text (places_of_pieces at pieces)
-AllWithin-places_of_pieces text at [] h = All-nil (IsWithin text)
-AllWithin-places_of_pieces text at ([] ∷ pieces) h = AllWithin-places_of_pieces text (at + 0 + 1) pieces h.2
-AllWithin-places_of_pieces text at ((b ∷ bs) ∷ pieces) h =
-    All-cons (IsWithin text) (record { start = at; end = at + length (b ∷ bs) }) (places_of_pieces (at + length (b ∷ bs) + 1) pieces)
+pub AreSpansOf-places_of_pieces : (text : List ℕ) (at : ℕ) (pieces : List (List ℕ)) → StandAt text at pieces → AreSpansOf text (places_of_pieces at pieces)
+AreSpansOf-places_of_pieces text at [] h = All-nil (IsSpanOf text)
+AreSpansOf-places_of_pieces text at ([] ∷ pieces) h = AreSpansOf-places_of_pieces text (at + 0 + 1) pieces h.2
+AreSpansOf-places_of_pieces text at ((b ∷ bs) ∷ pieces) h =
+    All-cons (IsSpanOf text) (record { start = at; end = at + length (b ∷ bs) }) (places_of_pieces (at + length (b ∷ bs) + 1) pieces)
     (record { not_empty = omega arith; ends = h.1 })
-    (AllWithin-places_of_pieces text (at + length (b ∷ bs) + 1) pieces h.2)
+    (AreSpansOf-places_of_pieces text (at + length (b ∷ bs) + 1) pieces h.2)
 
 -- the pieces of a line that stands in the text stand in it
 StandAt-line : (text : List ℕ) (at : ℕ) (line : List ℕ) → take (length line) (drop at text) ≡ line → at + length line ≤ length text → StandAt text at (slice_split separates line)
@@ -75,17 +75,17 @@ words_at-numbered text number at (line ∷ lines) h =
     let tail = words_at-numbered text (number + 1) (at + length line + 1) lines h.2 in
     cc
 
-AllWithin-numbered : (text : List ℕ) (number at : ℕ) (lines : List (List ℕ)) → StandAt text at lines → All (λ (line : Line). AllWithin text line.words) (numbered number at lines)
-AllWithin-numbered text number at [] h = All-nil (λ (line : Line). AllWithin text line.words)
-AllWithin-numbered text number at (line ∷ lines) h =
-    All-cons (λ (l : Line). AllWithin text l.words) (record { number = number; words = places at line }) (numbered (number + 1) (at + length line + 1) lines)
-    (AllWithin-places_of_pieces text at (slice_split separates line) (StandAt-line text at line h.0 h.1))
-    (AllWithin-numbered text (number + 1) (at + length line + 1) lines h.2)
+AreSpansOf-numbered : (text : List ℕ) (number at : ℕ) (lines : List (List ℕ)) → StandAt text at lines → All (λ (line : Line). AreSpansOf text line.words) (numbered number at lines)
+AreSpansOf-numbered text number at [] h = All-nil (λ (line : Line). AreSpansOf text line.words)
+AreSpansOf-numbered text number at (line ∷ lines) h =
+    All-cons (λ (l : Line). AreSpansOf text l.words) (record { number = number; words = places at line }) (numbered (number + 1) (at + length line + 1) lines)
+    (AreSpansOf-places_of_pieces text at (slice_split separates line) (StandAt-line text at line h.0 h.1))
+    (AreSpansOf-numbered text (number + 1) (at + length line + 1) lines h.2)
 
 -- the words read off at the places of a text's lines are the words of its lines
 pub words_at-lines_of : (text : List ℕ) → words_at text (lines_of text) ≡ text_words text
 words_at-lines_of text = words_at-numbered text 1 0 (raw_lines text) (StandAt-raw_lines text)
 
 -- the words of a text's lines stand within the text
-pub AllWithin-lines_of : (text : List ℕ) → All (λ (line : Line). AllWithin text line.words) (lines_of text)
-AllWithin-lines_of text = AllWithin-numbered text 1 0 (raw_lines text) (StandAt-raw_lines text)
+pub AreSpansOf-lines_of : (text : List ℕ) → All (λ (line : Line). AreSpansOf text line.words) (lines_of text)
+AreSpansOf-lines_of text = AreSpansOf-numbered text 1 0 (raw_lines text) (StandAt-raw_lines text)

@@ -9,14 +9,14 @@ use Rattle.smol_text.specs.Lines.{separates, raw_lines}
 abbrev pub slice_of : List ℕ → Span → List ℕ
 slice_of text span = slice_range text span.start span.end
 
--- a span holds at least one byte, and ends where the text does or before
-pub record IsWithin (text : List ℕ) (span : Span) : Type 0 where
+-- a place in a text: it holds at least one byte, and ends where the text does or before
+pub record IsSpanOf (text : List ℕ) (span : Span) : Type 0 where
   pub not_empty : span.start < span.end
   pub ends : span.end ≤ length text
 
--- each span is within the text
-abbrev pub AllWithin : List ℕ → List Span → Type 0
-AllWithin text spans = All (IsWithin text) spans
+-- each span is a place in the text
+abbrev pub AreSpansOf : List ℕ → List Span → Type 0
+AreSpansOf text spans = All (IsSpanOf text) spans
 
 -- where a piece stands whose first byte stands at `at`: nowhere, where the piece is empty
 abbrev pub place_of_piece : ℕ → List ℕ → List Span
@@ -55,5 +55,5 @@ abbrev pub words_of : LinedText → List (List (List ℕ))
 words_of text = words_at text.bytes text.lines
 
 -- each line's words stand within the text
-abbrev pub LinesWithin : LinedText → Type 0
-LinesWithin text = All (λ (line : Line). AllWithin text.bytes line.words) text.lines
+abbrev pub HoldsItsWords : LinedText → Type 0
+HoldsItsWords text = All (λ (line : Line). AreSpansOf text.bytes line.words) text.lines

@@ -9,6 +9,6 @@ mod text_fault;
 
 pub use line::{Line, Span, Words};
 pub use line_words::LineWords;
-pub use split::split_lines;
+pub use split::{MOST_BYTES, split_lines};
 pub use text::Text;
 pub use text_fault::TextFault;

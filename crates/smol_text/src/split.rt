@@ -1,5 +1,5 @@
 //! A text is split into lines, and a line into words.
-ghost use Rattle.std.specs.Prelude.{◌≡◌, ◌+◌, ◌^◌, ◌≤◌, length, IfOk};
+ghost use Rattle.std.specs.Prelude.{◌≡◌, ◌+◌, ◌≤◌, length, IfOk};
 ghost use Rattle.std.specs.List.{position};
 ghost use Rattle.smol_text.specs.Lines.{is_line_feed, separates, text_words};
 ghost use Rattle.smol_text.specs.Spans.{places, lines_of, words_of};
@@ -9,10 +9,13 @@ use crate::text::Text;
 use crate::text_fault::TextFault;
 use std::alloc::Global;
 
-/// Splits a text of at most 4 MiB into numbered lines, and each line into words. A line ends with a line
+/// The most bytes that a text may have, 4 MiB.
+pub const MOST_BYTES: usize = 4_194_304;
+
+/// Splits a text into numbered lines, and each line into words. A line ends with a line
 /// feed or at the end of the text. Tabs, carriage returns and spaces separate words.
 pub fn split_lines(alloc: Global, bytes: &[u8]) -> Result<Text, TextFault>
-    requires { length bytes.now ≤ 4194304 }
+    requires { length bytes.now ≤ MOST_BYTES }
     ensures bytes { IfOk result (λ text. text.bytes ≡ bytes.now) }
     ensures lines { IfOk result (λ text. text.lines ≡ lines_of bytes.now) }
     ensures words { IfOk result (λ text. words_of text ≡ text_words bytes.now) }
@@ -24,7 +27,7 @@ pub fn split_lines(alloc: Global, bytes: &[u8]) -> Result<Text, TextFault>
 
 /// Every line of a text, numbered from 1, with the places of its words.
 fn find_lines(alloc: Global, bytes: &[u8]) -> Result<Vec<Line>, TextFault>
-    requires { length bytes.now ≤ 4194304 }
+    requires { length bytes.now ≤ MOST_BYTES }
     ensures { IfOk result (λ lines. lines.items ≡ lines_of bytes.now) }
 {
     let mut lines = Vec::new(alloc);
@@ -43,7 +46,7 @@ fn find_lines(alloc: Global, bytes: &[u8]) -> Result<Vec<Line>, TextFault>
 
 /// The places of a line's words, where its first byte stands at `at`.
 fn find_words(alloc: Global, line: &[u8], at: u32) -> Result<Words, TextFault>
-    requires { at + length line.now ≤ 4194304 }
+    requires { at + length line.now ≤ MOST_BYTES }
     ensures { IfOk result (λ words. words ≡ places at line.now) }
 {
     let mut spans = Vec::new(alloc);

@@ -1,7 +1,7 @@
 //! A text that is split into lines.
 ghost use Rattle.std.specs.Prelude.{◌≡◌, ◌<◌, length, map, slice_index_or, []};
 ghost use Rattle.smol_text.specs.Lines.{text_words};
-ghost use Rattle.smol_text.specs.Spans.{slice_of, AllWithin, LinesWithin, lines_of, words_of};
+ghost use Rattle.smol_text.specs.Spans.{slice_of, AreSpansOf, HoldsItsWords, lines_of, words_of};
 
 use crate::line::{Line, Span};
 use crate::line_words::LineWords;
@@ -47,7 +47,7 @@ impl Text {
     pub fn lines(&self) -> &[Line]
         ensures lines { result.now ≡ self.now.lines }
         ensures of_bytes { self.now.lines ≡ lines_of self.now.bytes }
-        ensures within { LinesWithin self.now }
+        ensures within { HoldsItsWords self.now }
     {
         self.lines.as_slice()
     }
@@ -63,7 +63,7 @@ impl Text {
     /// The places of the words of the line at an index, and no places past the last line.
     fn spans_of(&self, line: usize) -> &[Span]
         ensures words { map (slice_of self.now.bytes) result.now ≡ slice_index_or (words_of self.now) line [] }
-        ensures within { AllWithin self.now.bytes result.now }
+        ensures within { AreSpansOf self.now.bytes result.now }
     {
         match self.lines.get(line) {
             Some(line) => line.words.as_slice(),

@@ -1,7 +1,6 @@
-use Rattle.std.proofs.Common.{Ok, w64, sym, ap, ◌∙◌, rules}
+use Rattle.std.proofs.Common.{Ok, Err, w64, sym, ap, ◌∙◌, rules}
 use Rattle.std.proofs.lemmas.Int.{to_z-of_z}
-use Rattle.smol_num.specs.Decimal.{signed_result}
-use Rattle.smol_num.proofs.DecimalLemmas.{decimal_of-other, decimal_of-parts}
+use Rattle.smol_num.proofs.DecimalLemmas.{decimal_of-other, decimal_of-read}
 use Rattle.smol_num.proofs.decimal.read_decimal.Goals as goal
 
 pub returns-in_default : goal.returns-in_default
@@ -11,14 +10,13 @@ pub returns-in-Ok : goal.returns-in-Ok
 returns-in-Ok c =
     let d = c.in-Some.decimal in
     let of = c.in-Some.ensures in
-    let parts = decimal_of-parts c.args.bytes.now c.args.places d.negative d.whole.now d.fraction.now d.exponent.raised d.exponent.lowered (sym of.found) of.negative of.whole of.fraction of.raised of.lowered in
-    let size = rw c.from.ensures at c.in-Ok.ensures in
-    ap Ok (to_z-of_z w64 c.with_sign.result (search rules) ∙ c.with_sign.ensures) ∙ ap (signed_result d.negative) size ∙ parts
+    ap Ok (to_z-of_z w64 c.with_sign.result (search rules) ∙ c.with_sign.ensures)
+    ∙ decimal_of-read c.args.bytes.now c.args.places d.negative d.whole.now d.fraction.now d.exponent.raised d.exponent.lowered (Ok c.in-Ok.size)
+    (sym of.found) of.negative of.whole of.fraction of.raised of.lowered (rw c.from.ensures at c.in-Ok.ensures)
 
 pub returns-in-Err : goal.returns-in-Err
 returns-in-Err c =
     let d = c.in-Some.decimal in
     let of = c.in-Some.ensures in
-    let parts = decimal_of-parts c.args.bytes.now c.args.places d.negative d.whole.now d.fraction.now d.exponent.raised d.exponent.lowered (sym of.found) of.negative of.whole of.fraction of.raised of.lowered in
-    let size = rw c.from.ensures at c.in-Err.ensures in
-    ap (signed_result d.negative) size ∙ parts
+    decimal_of-read c.args.bytes.now c.args.places d.negative d.whole.now d.fraction.now d.exponent.raised d.exponent.lowered (Err c.in-Err.fault)
+    (sym of.found) of.negative of.whole of.fraction of.raised of.lowered (rw c.from.ensures at c.in-Err.ensures)

@@ -1,7 +1,7 @@
 use Rattle.std.proofs.Common.{◌≡◌, ◌+◌, ◌-◌, ◌*◌, ◌^◌, ◌++◌, min, take, drop, length, sym, ap, ◌∙◌, arith}
 use Rattle.smol_num.specs.Digits.{digits_value}
 use Rattle.smol_num.proofs.Tens.{scaled, list_all-scaled, grown, answer-fine, answer-whole, answer-limited}
-use Rattle.smol_num.proofs.decimal.size_of.Goals as goal
+use Rattle.smol_num.proofs.scale.scaled.Goals as goal
 
 pub returns-then-not-are_zero : goal.returns-then-not-are_zero
 returns-then-not-are_zero c =

@@ -1,6 +1,6 @@
 use Rattle.std.proofs.Common.{arith}
 use Rattle.smol_num.proofs.Tens.{times_ten-more}
-use Rattle.smol_num.proofs.decimal.times_ten.Goals as goal
+use Rattle.smol_num.proofs.scale.times_ten.Goals as goal
 
 pub loop-turn-preserved : goal.loop-turn-preserved
 loop-turn-preserved c =

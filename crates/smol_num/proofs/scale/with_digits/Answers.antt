@@ -1,6 +1,6 @@
 use Rattle.std.proofs.Common.{arith}
 use Rattle.smol_num.proofs.Tens.{with_digits-more}
-use Rattle.smol_num.proofs.decimal.with_digits.Goals as goal
+use Rattle.smol_num.proofs.scale.with_digits.Goals as goal
 
 pub loop-digit-preserved : goal.loop-digit-preserved
 loop-digit-preserved c =

@@ -3,7 +3,7 @@ use Rattle.std.specs.Prelude.{is_some}
 use Rattle.std.specs.List.{list_any, after_first}
 use Rattle.smol_num.specs.Decimal.{is_mark, is_exponent}
 use Rattle.smol_num.proofs.Places.{is_some-position, after_first-position}
-use Rattle.smol_num.proofs.decimal.exponent_of.Goals as goal
+use Rattle.smol_num.proofs.parts.exponent_of.Goals as goal
 
 pub returns-in-Some-clause-found : goal.returns-in-Some-clause-found
 returns-in-Some-clause-found c =

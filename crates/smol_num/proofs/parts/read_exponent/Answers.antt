@@ -1,6 +1,6 @@
 use Rattle.std.proofs.Common.{arith}
 use Rattle.smol_num.proofs.DigitsLemmas.{digits_value-three}
-use Rattle.smol_num.proofs.decimal.read_exponent.Goals as goal
+use Rattle.smol_num.proofs.parts.read_exponent.Goals as goal
 
 pub overflow_cast-size : goal.overflow_cast-size
 overflow_cast-size c = grind (arith, digits_value-three, c.in_ok-size.ensures)
