@@ -114,10 +114,10 @@ fn refuses<R: Abort + AllocGlobal + Sync + Threads>(
 #[test]
 fn ends_with_status_and_bytes(rt: HostRuntime) -> Result<(), Fail> {
     let text = text_of(rt.alloc(), &LINES)?;
-    let bytes = text.as_bytes();
+    let spaced = spoiled(rt.alloc(), 9, "mol  000007\tA 0 100 50\r")?;
     let counted = Row {
         words: &["f"],
-        bytes,
+        bytes: text.as_bytes(),
         failing_reads: &[],
         failing_writes: &[],
         status: Status::Done,
@@ -144,6 +144,11 @@ fn ends_with_status_and_bytes(rt: HostRuntime) -> Result<(), Fail> {
         counted,
         Row {
             bytes: text.trim_end().as_bytes(),
+            ..counted
+        },
+        Row {
+            bytes: spaced.as_bytes(),
+            stdout: "0 7\n1 7\n",
             ..counted
         },
         Row {
