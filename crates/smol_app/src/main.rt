@@ -32,14 +32,7 @@ where
     let words = words_of(rt)?;
     let mut source = FileSource::of(rt);
     let mut outlets = RealOutlets::of(rt, rt.alloc())?;
-    Ok(run_program(
-        rt,
-        rt.alloc(),
-        &words,
-        &mut source,
-        &mut outlets,
-        &Open,
-    ))
+    Ok(run_program(rt, rt.alloc(), &words, &mut source, &mut outlets, &Open))
 }
 
 fn main(rt: HostRuntime) -> ExitCode {

@@ -1,10 +1,10 @@
 -- From what a source told of a file to how a run of it ends.
-use Rattle.std.proofs.Common.{◌≡◌, ℕ, ◌+◌, ◌<◌, ◌≤◌, ◌++◌, [], List, length, Option, None, Some, IfSome, Result, Ok, Err, IfOk, refl, sym, ap, ◌∙◌, length-append, arith, true, false, Bool, nat_lt, if◌then◌else◌, codes}
-use Rattle.std.specs.Option.{option_map, IsSomeAnd}
+use Rattle.std.proofs.Common.{◌≡◌, ℕ, ◌+◌, ◌<◌, ◌≤◌, ◌++◌, List, length, Option, None, Some, IfSome, Result, Ok, Err, IfOk, refl, ap, ◌∙◌, length-append, arith, true, nat_lt, codes}
+use Rattle.std.specs.Option.{option_map}
 use Rattle.std.proofs.lemmas.List.{append-nil}
 use Rattle.std.proofs.lemmas.Bool.{le-ltb}
 use Rattle.smol_edge.specs.Faults.{Tells}
-use Rattle.smol_edge.specs.Source.{Reading, Opens, Takes, TakesAll, TakesFront}
+use Rattle.smol_edge.specs.Source.{Reading, Opens, TakesAll, TakesFront}
 use Rattle.smol_edge.specs.Outlets.{Written}
 use Rattle.smol_text.specs.Lines.{text_words}
 use Rattle.smol_run.specs.declared.status.Status.{Status}

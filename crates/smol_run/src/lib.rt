@@ -5,6 +5,8 @@ mod counting;
 mod names;
 mod program;
 mod status;
+#[cfg(test)]
+mod tests;
 mod words;
 
 pub use program::run_program;

@@ -73,7 +73,7 @@ pub fn run_program<R: Threads + Sync, S: Source, K: Outlets, G: Gate>(
     // With one of these statuses the run ended as it is defined to, with every byte, whether or not a count rose.
     ensures outcome { IsDefinite result → IfSome (S.told source.old) (λ reading.
         Tells (K.told outlets.old) (K.told outlets.new)
-            (EndsAsSome (outcome_of (map (λ word. string_bytes word) words.now) reading.contents) result)) }
+        (EndsAsSome (outcome_of (map (λ word. string_bytes word) words.now) reading.contents) result)) }
 
     // Neither of these comes by itself.
     ensures input { result ≡ Status.Input → Rose (S.faults source.old) (S.faults source.new) }
@@ -106,7 +106,7 @@ fn run_words<S: Source, K: Outlets>(
 ) -> Result<Status, Stop>
     ensures ended { IfOk result (λ status. IfSome (S.told source.old) (λ reading.
         Tells (K.told outlets.old) (K.told outlets.new)
-            (EndsAsSome (outcome_of (map (λ word. string_bytes word) words.now) reading.contents) status))) }
+        (EndsAsSome (outcome_of (map (λ word. string_bytes word) words.now) reading.contents) status))) }
     ensures definite { IfOk result IsDefinite }
     ensures usage { IfOk result (λ status. status ≡ Status.Usage → job_of (map (λ word. string_bytes word) words.now) ≡ None) }
     ensures misused { job_of (map (λ word. string_bytes word) words.now) ≡ None → MatchResult result (λ status. status ≡ Status.Usage) (λ stop. stop ≡ Stop.Output) }
@@ -128,12 +128,7 @@ fn run_words<S: Source, K: Outlets>(
 }
 
 // Tells that a text is refused, and at which line.
-fn refuse<K: Outlets>(
-    alloc: Global,
-    outlets: &mut K,
-    line: u32,
-    why: &str,
-) -> Result<Status, Stop>
+fn refuse<K: Outlets>(alloc: Global, outlets: &mut K, line: u32, why: &str) -> Result<Status, Stop>
     ensures ended { IfOk result (λ status. Tells (K.told outlets.old) (K.told outlets.new) (EndsAs (refused line why.now) status)) }
     ensures status { IfOk result (λ status. status ≡ Status.Refused) }
     ensures cause { IsErrOf result Stop.Output → Rose (K.faults outlets.old) (K.faults outlets.new) }
@@ -207,7 +202,7 @@ fn run_file<S: Source, K: Outlets>(
 ) -> Result<Status, Stop>
     ensures ended { IfOk result (λ status. IfSome (S.told source.old) (λ reading.
         Tells (K.told outlets.old) (K.told outlets.new)
-            (EndsAsSome (option_map outcome_of_text (reading.contents name.now)) status))) }
+        (EndsAsSome (option_map outcome_of_text (reading.contents name.now)) status))) }
     ensures definite { IfOk result IsRun }
     ensures asked { Tells (S.told source.old) (S.told source.new) (AsksOnce name.now) }
     ensures input { IsErrOf result Stop.Input → Rose (S.faults source.old) (S.faults source.new) }

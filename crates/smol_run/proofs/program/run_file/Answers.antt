@@ -1,4 +1,4 @@
-use Rattle.std.proofs.Common.{◌≡◌, ap, Err}
+use Rattle.std.proofs.Common.{ap, Err}
 use Rattle.smol_run.proofs.Ends.{contents_taken, contents_long, whole_ends, long_ends}
 use Rattle.smol_run.proofs.program.run_file.Goals as goal
 
