@@ -7,7 +7,7 @@ use Rattle.smol_streams.proofs.streams.centred_sum.Goals as goal
 pub loop-preserved : goal.loop-preserved
 loop-preserved c =
     let g = c.args.generator.now in
-    let next = drawn g c.loop.generator c.next_word.new.self c.next_word.result c.args.stream c.args.place c.loop.counter c.requires c.loop-test.true
+    let next = drawn g c.loop.generator c.next_word.new.self c.next_word.result c.args.stream c.args.place c.loop.counter c.requires (omega arith)
     c.loop.invariant.stands c.next_word.ensures in
     record {
       stands = next.1;
