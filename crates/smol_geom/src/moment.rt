@@ -1,7 +1,8 @@
 ghost use Rattle.std.specs.Prelude.{◌↔◌, IsTrue};
 ghost use Rattle.smol_geom.specs.Moment.{IsBefore};
 
-/// A moment of a move: the part `num / den` of it is made, and the coordinate on `axis` is even.
+/// A moment of a move: the part `num / den` of it is made, and the coordinate on `axis` is an even number
+/// of ticks.
 #[derive(Clone, Copy, Debug, PartialEq, Eq)]
 pub struct Moment {
     pub num: u64,
