@@ -17,7 +17,8 @@ pub struct Fold {
     pub shift: [i64; 3],
 }
 
-/// Whether the true point of a move at a moment, the fold of the move's point, is in the closed rectangle.
+/// Whether the true point of a move at a moment, which is the fold of the point that the move has reached,
+/// is in the closed rectangle.
 pub fn holds_at(rect: &Rect, from: &Place, by: &Step3, m: &Moment, f: &Fold) -> bool
     requires low { IsWithin (2 ^ 58) rect.now.low }
     requires high { IsWithin (2 ^ 58) rect.now.high }

@@ -8,7 +8,7 @@ use crate::place::Place;
 use crate::rect::Rect;
 
 /// Whether the straight line from a to b meets the closed rectangle. A line that touches an edge or a
-/// corner meets it; one that runs along its plane can't be, since places are odd and planes even.
+/// corner meets it. No end of the line stands on the plane, since places are odd and planes even.
 pub fn meets(rect: &Rect, a: &Place, b: &Place) -> bool
     requires rect { IsRect rect.now }
     requires low { IsWithin (2 ^ 58) rect.now.low }

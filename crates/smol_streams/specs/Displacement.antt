@@ -2,24 +2,24 @@
 use Rattle.std.specs.Prelude.{ℕ, zero, suc, ◌+◌, ◌*◌, ◌/◌, ◌%◌, ◌^◌, List, [], ◌∷◌, ◌++◌, sum, flat_map, nat_lt, if◌then◌else◌, ℤ, pos, ◌+ℤ◌, ◌-ℤ◌, ◌*ℤ◌}
 use Rattle.std.specs.Int.{int_div_euclid}
 use Rattle.smol_geom.specs.declared.place.Step3.{Step3}
-use Rattle.smol_streams.specs.Words.{word_of}
+use Rattle.smol_streams.specs.Words.{key_of_seed, word_under}
 
--- so many words of a stream, from a place on
-abbrev pub words_from : ℕ → ℕ → ℕ → ℕ → List ℕ
-words_from seed stream place zero = []
-words_from seed stream place (suc n) = words_from seed stream place n ++ word_of seed stream (place + n) ∷ []
+-- so many words of a stream under a key, from a place on
+abbrev pub words_from : List ℕ → ℕ → ℕ → ℕ → List ℕ
+words_from key stream place zero = []
+words_from key stream place (suc n) = words_from key stream place n ++ word_under key stream (place + n) ∷ []
 
 -- the two draws of a word, 16 bits each: its low and its high half
 abbrev pub draws_of : ℕ → List ℕ
 draws_of word = word % 2 ^ 16 ∷ word / 2 ^ 16 ∷ []
 
 -- the twelve draws of the six words from a place on
-abbrev pub twelve_draws : ℕ → ℕ → ℕ → List ℕ
-twelve_draws seed stream place = flat_map draws_of (words_from seed stream place 6)
+abbrev pub twelve_draws : List ℕ → ℕ → ℕ → List ℕ
+twelve_draws key stream place = flat_map draws_of (words_from key stream place 6)
 
 -- the sum of the twelve draws, less its mean
-abbrev pub centred_sum : ℕ → ℕ → ℕ → ℤ
-centred_sum seed stream place = pos (sum (twelve_draws seed stream place)) -ℤ pos 393210
+abbrev pub centred_sum : List ℕ → ℕ → ℕ → ℤ
+centred_sum key stream place = pos (sum (twelve_draws key stream place)) -ℤ pos 393210
 
 -- a number over a natural number, rounded down
 abbrev pub floor_of : ℤ → ℕ → ℤ
@@ -36,7 +36,7 @@ place_of_axis k axis = 32 * k + 6 * axis
 -- the displacement on an axis, which is 0 on an axis that isn't in use
 abbrev pub displacement_on : ℕ → ℕ → ℕ → ℕ → ℕ → ℕ → ℤ
 displacement_on seed serial k s dims axis =
-    if nat_lt axis dims then scaled (centred_sum seed serial (place_of_axis k axis)) s else pos 0
+    if nat_lt axis dims then scaled (centred_sum (key_of_seed seed) serial (place_of_axis k axis)) s else pos 0
 
 -- the displacement in step k of the molecule with this serial and difstep, where the first `dims` axes are in use
 abbrev pub displacement : ℕ → ℕ → ℕ → ℕ → ℕ → Step3

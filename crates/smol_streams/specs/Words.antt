@@ -7,9 +7,13 @@ use Rattle.rand_chacha.specs.ChaCha.{word_at, key_of}
 unfoldable pub key_of_seed : ℕ → List ℕ
 key_of_seed seed = key_of (to_le_bytes w64 seed ++ replicate 24 0)
 
--- the ChaCha8 word, after four double rounds, at a place of a stream under the seed's key
-unfoldable pub word_of : ℕ → ℕ → ℕ → ℕ
-word_of seed stream place = word_at 4 (key_of_seed seed) stream place
+-- the ChaCha8 word, after four double rounds, at a place of a stream under a key
+unfoldable pub word_under : List ℕ → ℕ → ℕ → ℕ
+word_under key stream place = word_at 4 key stream place
+
+-- the word of a seed at a place of a stream
+abbrev pub word_of : ℕ → ℕ → ℕ → ℕ
+word_of seed stream place = word_under (key_of_seed seed) stream place
 
 -- the number below n that two neighbouring words give, the word at the place being the low one
 abbrev pub number_below : ℕ → ℕ → ℕ → ℕ → ℕ

@@ -6,3 +6,6 @@ mod streams;
 
 pub use displacement::scale;
 pub use streams::Streams;
+
+#[cfg(test)]
+mod tests;

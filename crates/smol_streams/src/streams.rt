@@ -99,22 +99,23 @@ impl Streams {
             return 0;
         }
         let place = WORDS_A_STEP * u128::from(k) + WORDS_AN_AXIS * u128::from(axis);
-        scale(self.centred_sum(serial, place), s)
+        scale(centred_sum(&mut self.generator, serial, place), s)
     }
+}
 
-    // The sum of the twelve draws of six words, less its mean.
-    fn centred_sum(&mut self, stream: u64, place: u128) -> i64
-        requires { place + 6 ≤ 2 ^ 68 }
-        ensures value { result ≡ centred_sum self.old stream place }
-        ensures size { unsigned_abs result ≤ 393210 }
-        ensures seed { self.new ≡ self.old }
-    {
-        let mut sum = 0u32;
-        for i in 0..WORDS_AN_AXIS {
-            sum += sum_of_draws(self.word(stream, place + i));
-        }
-        i64::from(sum) - MEAN
+// The sum of the twelve draws of six words, less its mean.
+fn centred_sum(generator: &mut ChaCha8Rng, stream: u64, place: u128) -> i64
+    requires { place + 6 ≤ 2 ^ 68 }
+    ensures value { result ≡ centred_sum generator.old.key stream place }
+    ensures size { unsigned_abs result ≤ 393210 }
+    ensures key { generator.new.key ≡ generator.old.key }
+{
+    bring(generator, stream, place);
+    let mut sum = 0u32;
+    for _ in 0..WORDS_AN_AXIS {
+        sum += sum_of_draws(generator.next_word());
     }
+    i64::from(sum) - MEAN
 }
 
 // The sum of a word's two draws, its low and its high half.
@@ -125,7 +126,8 @@ fn sum_of_draws(word: u32) -> u32
     (word & 0xffff) + (word >> 16)
 }
 
-// Brings the generator to the place of the stream. It stays where it stands if that is the place.
+// Brings the generator to the place of the stream, unless it stands there. A generator that is set to
+// the start of a block computes nothing until the next word, so a new stream costs one computation.
 fn bring(generator: &mut ChaCha8Rng, stream: u64, place: u128)
     requires { place < 2 ^ 68 }
     ensures { generator.new ≡ moved generator.old stream place }
