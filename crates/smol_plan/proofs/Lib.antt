@@ -1,0 +1,4 @@
+pub mod BelowLemmas
+pub mod LinkLemmas
+pub mod MatchingLemmas
+pub mod GoodLemmas

@@ -1,0 +1,5 @@
+pub mod Pair
+pub mod Matching
+pub mod Links
+pub mod Machine
+pub mod Good
