@@ -3,3 +3,5 @@ pub mod LinkLemmas
 pub mod MatchingLemmas
 pub mod GoodLemmas
 pub mod GoodKept
+pub mod ProgressLemmas
+pub mod StepLemmas

@@ -3,3 +3,4 @@ pub mod Matching
 pub mod Links
 pub mod Machine
 pub mod Good
+pub mod Law
