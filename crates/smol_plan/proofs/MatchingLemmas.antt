@@ -1,7 +1,8 @@
 -- Serial matching, pair by pair.
-use Rattle.std.proofs.Common.{◌≡◌, ℕ, zero, suc, ◌<◌, Bool, true, false, not, ◌&&◌, ◌||◌, List, [], ◌∷◌, length, get_or, refl, sym, ◌∙◌, ap, inl, inr, ⊎_elim, arith}
+use Rattle.std.proofs.Common.{◌≡◌, ℕ, zero, suc, ◌+◌, ◌<◌, Bool, true, false, not, ◌&&◌, ◌||◌, List, [], ◌∷◌, ◌++◌, length, get_or, drop, drop-cons, append_assoc, add-one, refl, sym, ◌∙◌, ap, inl, inr, ⊎_elim, arith}
+use mathlib.Core.Path.{fun_ext}
 use Rattle.smol_plan.specs.declared.pair.Pair.{Pair}
-use Rattle.smol_plan.specs.Pair.{has_molecule, shares_molecule, pair_at}
+use Rattle.smol_plan.specs.Pair.{has_molecule, shares_molecule, pair_at, no_pair}
 use Rattle.smol_plan.specs.Matching.{is_free, taken_after, serial_from, serial, fires}
 use Rattle.smol_plan.specs.Machine.{any_below}
 use Rattle.smol_plan.proofs.BelowLemmas.{any_below_front, any_below_or, any_below_same}
@@ -53,3 +54,13 @@ fires_at pairs j l =
 pub length-serial_from : (taken : ℕ → Bool) (pairs : List Pair) → length (serial_from taken pairs) ≡ length pairs
 length-serial_from taken [] = refl
 length-serial_from taken (p ∷ pairs) = ap suc (length-serial_from (taken_after taken p) pairs)
+
+-- one more pair of a walk whose answers so far, before those for the rest, are all the answers
+pub serial_more : (fired : List Bool) (taken next : ℕ → Bool) (pairs : List Pair) (answers : List Bool) (i : ℕ) (b : Bool) → i < length pairs → b ≡ is_free taken (pair_at pairs i) → ((m : ℕ) → next m ≡ taken_after taken (pair_at pairs i) m) → fired ++ serial_from taken (drop i pairs) ≡ answers → (fired ++ b ∷ []) ++ serial_from next (drop (i + 1) pairs) ≡ answers
+serial_more fired taken next pairs answers i b l free after so_far =
+    rw (append_assoc, free, add-one) (ap (λ rest. fired ++ rest) here ∙ so_far)
+  where
+    same : next ≡ taken_after taken (pair_at pairs i)
+    same = fun_ext after
+    here : (is_free taken (pair_at pairs i) ∷ serial_from next (drop (suc i) pairs)) ≡ serial_from taken (drop i pairs)
+    here = rw (drop-cons pairs i no_pair l, same) refl
