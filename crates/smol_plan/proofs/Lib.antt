@@ -5,3 +5,4 @@ pub mod GoodLemmas
 pub mod GoodKept
 pub mod ProgressLemmas
 pub mod StepLemmas
+pub mod LinkedLemmas

@@ -4,3 +4,4 @@ pub mod Links
 pub mod Machine
 pub mod Good
 pub mod Law
+pub mod Linked

@@ -9,8 +9,10 @@ mod event;
 mod law;
 mod matching;
 mod pair;
+mod plan;
 
 pub use event::Event;
 pub use law::{each_order_ends, each_order_follows_serial, each_order_is_short};
 pub use matching::greedy;
 pub use pair::{Pair, Side};
+pub use plan::Plan;
