@@ -12,6 +12,7 @@ use Rattle.smol_plan.specs.Matching.{fires}
 use Rattle.smol_plan.specs.Links.{source_of, is_link, is_number, comes_from}
 use Rattle.smol_plan.specs.Machine.{State, first_state, slice_of, is_decided, has_no_link, left_of, is_beaten, after_take, after_decide, with_told, after_tell, effect, effects, IsAllowed, AreEnabled}
 use Rattle.smol_plan.specs.Good.{Good, HasDecidedSource, IsSettled, IsOwed, IsQuiet, IsDecidedWell, IsHeldWell, IsHeld, IsUntouched, IsIdle}
+use Rattle.smol_plan.proofs.SideLemmas.{is_side-true}
 use Rattle.smol_plan.proofs.LinkLemmas.{link_inside}
 use Rattle.smol_plan.proofs.GoodLemmas.{AllTold, AllTold-from_left, left_of-zero, told_source, owed_source, owed_once, decided_told, is_beaten-fires, decided_source_cases}
 
@@ -117,12 +118,6 @@ module _ (pairs : List Pair) (state : State) (worker slice : ℕ) (untaken : sta
 is_number_from : (j : ℕ) (o : Option ℕ) → is_number j o ≡ true → o ≡ Some j
 is_number_from j None e = absurd (false≢true e)
 is_number_from j (Some i) e = ap Some (eqb-true _ _ e)
-
-is_side-true : (s t : Side) → is_side s t ≡ true → s ≡ t
-is_side-true Low Low e = refl
-is_side-true Low High e = absurd (false≢true e)
-is_side-true High Low e = absurd (false≢true e)
-is_side-true High High e = refl
 
 not_this : (a b : Bool) → not (a && b) ≡ true → a ≡ true → b ≡ false
 not_this true true e h = absurd (false≢true e)

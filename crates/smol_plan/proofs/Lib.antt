@@ -1,3 +1,4 @@
+pub mod SideLemmas
 pub mod BelowLemmas
 pub mod LinkLemmas
 pub mod MatchingLemmas
@@ -5,4 +6,5 @@ pub mod GoodLemmas
 pub mod GoodKept
 pub mod ProgressLemmas
 pub mod StepLemmas
+pub mod EntryLemmas
 pub mod LinkedLemmas

@@ -1,5 +1,5 @@
 use Rattle.smol_plan.specs.contracts.pair.SideOrd.TheImpl as by_side
-use Rattle.smol_plan.proofs.LinkedLemmas.{IsRising-from_sorted}
+use Rattle.smol_plan.proofs.EntryLemmas.{IsRising-from_sorted}
 use Rattle.smol_plan.proofs.plan.sort_entries.Goals as goal
 
 pub returns-clause-rising : goal.returns-clause-rising
