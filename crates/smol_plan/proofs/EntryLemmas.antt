@@ -13,7 +13,7 @@ use Rattle.smol_plan.specs.declared.pair.Side.{Side}
 use Rattle.smol_plan.specs.declared.pair.Side.TheVariants.{Low, High}
 use Rattle.smol_plan.specs.declared.plan.Entry.{Entry}
 use Rattle.smol_plan.specs.Pair.{is_side, pair_at, molecule_of, molecule_at}
-use Rattle.smol_plan.specs.Linked.{entry_at, entries_from, IsNoLater, IsRising}
+use Rattle.smol_plan.specs.Linked.{entry_at, entries_from, IsNoLater, IsRising, IsOf}
 use Rattle.smol_plan.proofs.SideLemmas.{is_side-true, is_side-refl}
 
 -- what an order by molecule, then by pair, then by something else says of two entries that are not the wrong way round
@@ -49,11 +49,6 @@ rising_far entries up p (suc q) h l = ⊎_elim
     (λ (e : p ≡ suc q). inr (ap (λ k. (entry_at entries k).molecule) e, omega (arith, ap (λ k. (entry_at entries k).pair) e)))
     (λ (n : p ≡ suc q → ⊥). IsNoLater-trans (entry_at entries p) (entry_at entries q) (entry_at entries (suc q)) (rising_far entries up p q (omega arith) (omega arith)) (rw (← add-one q) (up q (omega arith))))
     (cases_eq p (suc q))
-
--- the entry is of the pair j on the side
-pub record IsOf (x : Entry) (j : ℕ) (side : Side) : Type 0 where
-  pub of_pair : x.pair ≡ j
-  pub on_side : x.side ≡ side
 
 -- 1 for the entries of the pair j on the side
 tally : ℕ → Side → Entry → ℕ

@@ -8,3 +8,4 @@ pub mod ProgressLemmas
 pub mod StepLemmas
 pub mod EntryLemmas
 pub mod LinkedLemmas
+pub mod NeighborLemmas
