@@ -9,3 +9,4 @@ pub mod StepLemmas
 pub mod EntryLemmas
 pub mod LinkedLemmas
 pub mod NeighborLemmas
+pub mod PlanLemmas

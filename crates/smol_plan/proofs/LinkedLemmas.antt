@@ -1,5 +1,5 @@
 -- The links that stand in the sorted entries of a list of pairs.
-use Rattle.std.proofs.Common.{◌≡◌, ◌≢◌, ℕ, zero, suc, ◌+◌, ◌<◌, ◌≤◌, Bool, true, false, ◌&&◌, ◌==◌, List, [], ◌∷◌, length, get_or, set, ◌⊎◌, refl, sym, ◌∙◌, ap, inl, inr, ⊎_elim, arith, if◌then◌else◌, length-set, get_or-set_same, get_or-set_other}
+use Rattle.std.proofs.Common.{◌≡◌, ◌≢◌, ℕ, zero, suc, ◌+◌, ◌-◌, ◌<◌, ◌≤◌, Bool, true, false, ◌&&◌, ◌==◌, List, [], ◌∷◌, length, get_or, set, ◌⊎◌, refl, sym, ◌∙◌, ap, inl, inr, ⊎_elim, arith, if◌then◌else◌, length-set, get_or-set_same, get_or-set_other}
 use Rattle.std.proofs.lemmas.Bool.{cases_Bool, cases_eq, cases_order, cases_lt, eq-eqb, eqb-true, ne_eqb, and_parts, and_from, and_left, false≢true, both_ways, or_left, or_right, false_from_ne_true}
 use Rattle.smol_plan.specs.declared.pair.Pair.{Pair}
 use Rattle.smol_plan.specs.declared.pair.Side.{Side}
@@ -8,7 +8,7 @@ use Rattle.smol_plan.specs.declared.plan.Entry.{Entry}
 use Rattle.smol_plan.specs.declared.plan.Links.{Links}
 use Rattle.smol_plan.specs.Pair.{is_side, pair_at, molecule_at, IsOrdered}
 use Rattle.smol_plan.specs.Links.{has_at, IsLastBefore, IsNextAfter}
-use Rattle.smol_plan.specs.Linked.{unlinked, links_at, earlier_of, later_of, entry_at, with_earlier, with_later, joined, IsOf, IsJoint, IsJoined, IsAlone, SoFar, LinkedUpTo, AreUnlinked, IsEarlier, IsLater, IsLinked, IsNoLater}
+use Rattle.smol_plan.specs.Linked.{unlinked, links_at, earlier_of, later_of, entry_at, with_earlier, with_later, joined, IsOf, IsJoint, IsJoined, IsAlone, SoFar, LinkedUpTo, AreUnlinked, AreInside}
 use Rattle.smol_plan.proofs.SideLemmas.{is_side-true, is_side-refl}
 use Rattle.smol_plan.proofs.EntryLemmas.{AreEntries, rising_far}
 
@@ -174,3 +174,16 @@ LinkedUpTo-end entries links k e h =
       earlier = λ j side l. SoFar-end entries _ _ k j side _ e (h.earlier j side l);
       later = λ j side l. SoFar-end entries _ _ k j side _ e (h.later j side l);
     }
+
+-- a loop's step: the entry k is of the molecule of the one before
+pub LinkedUpTo-same : (entries : List Entry) (links next : List Links) (k : ℕ) → 1 ≤ k → k < length entries → AreInside entries (length links) → (entry_at entries (k - 1)).molecule ≡ (entry_at entries k).molecule → next ≡ joined links (entry_at entries (k - 1)) (entry_at entries k) → LinkedUpTo entries links k → LinkedUpTo entries next (k + 1)
+LinkedUpTo-same entries links next k some l inside same is h =
+    let e : k ≡ (k - 1) + 1 = omega arith in
+    let joined_is : next ≡ joined links (entry_at entries (k - 1)) (entry_at entries ((k - 1) + 1)) = is ∙ ap (λ i. joined links (entry_at entries (k - 1)) (entry_at entries i)) e in
+    rw joined_is (LinkedUpTo-joined entries links k (k - 1) e record { reached = omega arith; inside = omega arith; same = same ∙ ap (λ i. (entry_at entries i).molecule) e } (inside (k - 1) (omega arith)) (inside ((k - 1) + 1) (omega arith)) h)
+
+-- or it is not
+pub LinkedUpTo-other : (entries : List Entry) (links next : List Links) (k : ℕ) → 1 ≤ k → ((entry_at entries (k - 1)).molecule ≡ (entry_at entries k).molecule → ⊥) → next ≡ links → LinkedUpTo entries links k → LinkedUpTo entries next (k + 1)
+LinkedUpTo-other entries links next k some n is h =
+    let e : k ≡ (k - 1) + 1 = omega arith in
+    rw is (LinkedUpTo-apart entries links k (k - 1) e (λ same. n (same ∙ ap (λ i. (entry_at entries i).molecule) (sym e))) h)

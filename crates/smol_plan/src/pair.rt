@@ -1,4 +1,5 @@
 //! Two molecules that may react, and the two places that they have in a pair.
+ghost use Rattle.std.specs.Prelude.{◌≡◌};
 
 /// Two molecules and the reaction that they may take part in.
 #[derive(Clone, Copy, Debug, PartialEq, Eq)]
@@ -13,4 +14,18 @@ pub struct Pair {
 pub enum Side {
     Low,
     High,
+}
+
+impl Pair {
+    ghost use Rattle.smol_plan.specs.Pair.{molecule_of};
+
+    /// The molecule on a side.
+    pub fn molecule(&self, side: Side) -> u64
+        ensures { result ≡ molecule_of self.now side }
+    {
+        match side {
+            Side::Low => self.a,
+            Side::High => self.b,
+        }
+    }
 }
