@@ -5,3 +5,5 @@ pub mod Machine
 pub mod Good
 pub mod Law
 pub mod Linked
+pub mod Standing
+pub mod Board

@@ -10,6 +10,7 @@ mod law;
 mod matching;
 mod pair;
 mod plan;
+mod standing;
 
 pub use event::Event;
 pub use law::{each_order_ends, each_order_follows_serial, each_order_is_short};
