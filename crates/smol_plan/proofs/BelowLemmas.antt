@@ -1,6 +1,6 @@
 -- Searches and tests over the numbers below a bound.
 use Rattle.std.proofs.Common.{◌≡◌, ℕ, zero, suc, ◌+◌, ◌<◌, ◌≤◌, Bool, true, false, not, ◌&&◌, ◌||◌, Option, Some, None, ◌⊎◌, refl, sym, ◌∙◌, ap, subst, inl, inr, ⊎_elim, arith, rules}
-use Rattle.std.proofs.lemmas.Bool.{cases_Bool, cases_order, or_cases, or_parts, or_left, or_right, or_from, false≢true, both_ways}
+use Rattle.std.proofs.lemmas.Bool.{cases_Bool, cases_eq, cases_order, or_cases, or_parts, or_left, or_right, or_from, false≢true, both_ways}
 use Rattle.smol_plan.specs.Links.{last_below}
 use Rattle.smol_plan.specs.Machine.{any_below}
 
@@ -101,3 +101,17 @@ any_below_or p q (suc n) = or_middle (p n) (q n) (any_below p n) (any_below q n)
     or_middle false true false d e h = refl
     or_middle false false true d e h = h
     or_middle false false false d e h = h
+
+-- numbers that fail the test change no answer
+pub any_below_gap : (p : ℕ → Bool) (a b : ℕ) → a ≤ b → ((k : ℕ) → a ≤ k → k < b → p k ≡ false) → any_below p a ≡ any_below p b
+unfolding any_below
+any_below_gap p a zero l h =
+    let e : a ≡ 0 = omega arith in
+    ap (any_below p) e
+any_below_gap p a (suc b) l h = ⊎_elim
+    (λ (e : a ≡ suc b). ap (any_below p) e)
+    (λ (n : a ≡ suc b → ⊥). any_below_gap p a b (omega arith) (λ k x y. h k x (omega arith)) ∙ one_more (h b (omega arith) (omega arith)))
+    (cases_eq a (suc b))
+  where
+    one_more : p b ≡ false → any_below p b ≡ any_below p (suc b)
+    one_more e = rw e refl

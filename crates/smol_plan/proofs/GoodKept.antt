@@ -115,7 +115,7 @@ module _ (pairs : List Pair) (state : State) (worker slice : ℕ) (untaken : sta
         untouched = take_untouched;
       }
 
-is_number_from : (j : ℕ) (o : Option ℕ) → is_number j o ≡ true → o ≡ Some j
+pub is_number_from : (j : ℕ) (o : Option ℕ) → is_number j o ≡ true → o ≡ Some j
 is_number_from j None e = absurd (false≢true e)
 is_number_from j (Some i) e = ap Some (eqb-true _ _ e)
 

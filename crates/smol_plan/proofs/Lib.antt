@@ -10,3 +10,4 @@ pub mod EntryLemmas
 pub mod LinkedLemmas
 pub mod NeighborLemmas
 pub mod PlanLemmas
+pub mod BoardLemmas

@@ -14,3 +14,6 @@ is_side-true High High e = refl
 pub is_side-refl : (s : Side) → is_side s s ≡ true
 is_side-refl Low = refl
 is_side-refl High = refl
+
+pub low_is_high : Low ≡ High → ⊥
+low_is_high e = cc

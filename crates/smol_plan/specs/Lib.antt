@@ -7,3 +7,4 @@ pub mod Law
 pub mod Linked
 pub mod Standing
 pub mod Board
+pub mod Kept

@@ -1,5 +1,5 @@
 -- How it stands with one pair: what is kept of it.
-use Rattle.std.specs.Prelude.{ℕ, Bool, true, false, Option, Some, None}
+use Rattle.std.specs.Prelude.{ℕ, Bool, true, false, not, ◌||◌, Option, Some, None}
 use Rattle.smol_plan.specs.declared.pair.Side.{Side}
 use Rattle.smol_plan.specs.declared.pair.Side.TheVariants.{Low, High}
 use Rattle.smol_plan.specs.declared.standing.Decision.{Decision}
@@ -39,3 +39,9 @@ set_ower s High o = record s { ower_high = o }
 abbrev pub fired_of : Option Decision → Option Bool
 fired_of None = None
 fired_of (Some d) = Some d.fired
+
+-- a pair fires where neither of its molecules is taken before it, and then both are taken
+abbrev pub decision_after : Bool → Bool → Decision
+decision_after low high =
+    let fired = not (low || high) in
+    record { fired = fired; low_taken = low || fired; high_taken = high || fired }

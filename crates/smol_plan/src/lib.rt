@@ -7,6 +7,7 @@
 
 mod event;
 mod law;
+mod machine;
 mod matching;
 mod pair;
 mod plan;
@@ -14,6 +15,7 @@ mod standing;
 
 pub use event::Event;
 pub use law::{each_order_ends, each_order_follows_serial, each_order_is_short};
+pub use machine::Core;
 pub use matching::greedy;
 pub use pair::{Pair, Side};
 pub use plan::Plan;

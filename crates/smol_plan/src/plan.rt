@@ -125,7 +125,7 @@ impl Plan {
     }
 
     // The molecule of a pair on a side.
-    fn molecule(&self, pair: usize, side: Side) -> u64
+    pub(crate) fn molecule(&self, pair: usize, side: Side) -> u64
         requires { pair < length self.now }
         ensures { result ≡ molecule_at self.now pair side }
     {
@@ -133,7 +133,7 @@ impl Plan {
     }
 
     // The side on which a pair has a molecule.
-    fn side_of(&self, pair: usize, molecule: u64) -> Side
+    pub(crate) fn side_of(&self, pair: usize, molecule: u64) -> Side
         requires inside { pair < length self.now }
         requires has { has_at self.now molecule pair ≡ true }
         ensures { molecule_at self.now pair result ≡ molecule }

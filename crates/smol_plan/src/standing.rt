@@ -23,7 +23,19 @@ pub(crate) struct Standing {
 }
 
 impl Decision {
-    ghost use Rattle.smol_plan.specs.Standing.{is_taken_on};
+    ghost use Rattle.smol_plan.specs.Standing.{decision_after, is_taken_on};
+
+    /// Of a pair of whose molecules these are taken before it.
+    pub(crate) fn after(low: bool, high: bool) -> Self
+        ensures { result ≡ decision_after low high }
+    {
+        let fired = !(low || high);
+        Decision {
+            fired,
+            low_taken: low || fired,
+            high_taken: high || fired,
+        }
+    }
 
     pub(crate) fn is_taken(&self, side: Side) -> bool
         ensures { result ≡ is_taken_on self.now side }
