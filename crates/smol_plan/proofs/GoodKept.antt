@@ -269,8 +269,9 @@ module _ (pairs : List Pair) (state : State) (worker pair : ℕ) (side : Side) (
   is_a_link : is_link pairs pair side ≡ true
   is_a_link = rw sourced.is refl
 
-  only : (w : ℕ) → state.owes w pair side ≡ true → w ≡ worker
-  only w h = owed.alone w h ∙ sym (owed.alone worker owes)
+  -- only this worker owes the link
+  pub only_ower : (w : ℕ) → state.owes w pair side ≡ true → w ≡ worker
+  only_ower w h = owed.alone w h ∙ sym (owed.alone worker owes)
 
   not_all_told : AllTold pairs state pair → ⊥
   not_all_told t = both_ways _ owed.untold (t side is_a_link)
@@ -282,7 +283,8 @@ module _ (pairs : List Pair) (state : State) (worker pair : ℕ) (side : Side) (
       go None e = e
       go (Some fired) e = absurd (not_all_told (AllTold-from_left pairs state pair (g.decided pair fired e).all_told))
 
-  held_by_nobody : (w : ℕ) → state.holds w pair ≡ false
+  -- a pair with a link that is not told is held by nobody
+  pub held_by_nobody : (w : ℕ) → state.holds w pair ≡ false
   held_by_nobody w = ⊎_elim
       (λ (e : state.holds w pair ≡ true). absurd (not_all_told (AllTold-from_left pairs state pair (g.held w pair e).all_told)))
       (λ (e : state.holds w pair ≡ false). e)
@@ -310,7 +312,7 @@ module _ (pairs : List Pair) (state : State) (worker pair : ℕ) (side : Side) (
 
   owes_no_longer : (w j : ℕ) (s : Side) → ((j == pair) && is_side s side) ≡ true → (after_tell pairs state worker pair side).owes w j s ≡ false
   owes_no_longer w j s e = ⊎_elim
-      (λ (q : state.owes w j s ≡ true). and_left _ _ (not_from_true _ (and_from _ _ (eq-eqb _ _ (only w (rw (sym (is_this j s e).0, sym (is_this j s e).1) q))) e)))
+      (λ (q : state.owes w j s ≡ true). and_left _ _ (not_from_true _ (and_from _ _ (eq-eqb _ _ (only_ower w (rw (sym (is_this j s e).0, sym (is_this j s e).1) q))) e)))
       (λ (q : state.owes w j s ≡ false). and_right _ _ q)
       (cases_Bool (state.owes w j s))
 

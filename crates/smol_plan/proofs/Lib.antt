@@ -11,3 +11,4 @@ pub mod LinkedLemmas
 pub mod NeighborLemmas
 pub mod PlanLemmas
 pub mod BoardLemmas
+pub mod SoundLemmas
