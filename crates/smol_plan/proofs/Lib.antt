@@ -12,3 +12,4 @@ pub mod NeighborLemmas
 pub mod PlanLemmas
 pub mod BoardLemmas
 pub mod SoundLemmas
+pub mod StepOfBoard

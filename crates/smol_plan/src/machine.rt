@@ -130,3 +130,133 @@ fn tell_link(plan: &Plan, standing: &mut Standing, pair: usize, side: Side, work
         standing.holder = Some(worker);
     }
 }
+
+impl Core {
+    /// The machine over a plan, of which nothing has happened.
+    pub fn open(alloc: Global, plan: Plan, workers: u32) -> Result<Core, AllocError>
+        requires some { 1 ≤ workers }
+        requires few { workers ≤ 16 }
+        ensures plan { IfOk result (λ core. core.pairs ≡ plan) }
+        ensures workers { IfOk result (λ core. core.workers ≡ workers) }
+        ensures first { IfOk result (λ core. state_of core ≡ first_state) }
+        ensures good { IfOk result (λ core. Good core.pairs (state_of core)) }
+    {
+        let taken = vec![in alloc; false; plan.slices()]?;
+        let standings = vec![in alloc; Standing::fresh(); plan.len()]?;
+        Ok(Core {
+            plan,
+            workers,
+            taken,
+            standings,
+        })
+    }
+
+    /// Whether an event may happen: its numbers are of a worker, a slice or a pair, and the slice is not taken, the
+    /// worker holds the pair, or the worker owes the link.
+    pub fn enabled(&self, event: &Event) -> bool
+        ensures { IsTrue result ↔ IsEnabled self.now.pairs self.now.workers (state_of self.now) event.now }
+    {
+        match *event {
+            Event::Take { worker, slice } => {
+                worker < self.workers && slice < self.taken.len() && !self.taken(slice)
+            }
+            Event::Decide { worker, pair } => {
+                worker < self.workers && pair < self.plan.len() && self.holds(worker, pair)
+            }
+            Event::Tell { worker, pair, side } => {
+                worker < self.workers && pair < self.plan.len() && self.owes(worker, pair, side)
+            }
+        }
+    }
+
+    /// Lets an event happen.
+    pub fn apply(&mut self, event: Event)
+        requires { IsEnabled self.old.pairs self.old.workers (state_of self.old) event }
+        ensures plan { self.new.pairs ≡ self.old.pairs }
+        ensures workers { self.new.workers ≡ self.old.workers }
+        ensures effect { state_of self.new ≡ effect self.old.pairs (state_of self.old) event }
+        ensures good { Good self.new.pairs (state_of self.new) }
+    {
+        match event {
+            Event::Take { worker, slice } => self.take(worker, slice),
+            Event::Decide { worker, pair } => self.decide(worker, pair),
+            Event::Tell { worker, pair, side } => self.tell(worker, pair, side),
+        }
+    }
+
+    fn take(&mut self, worker: u32, slice: usize)
+        requires { IsEnabled self.old.pairs self.old.workers (state_of self.old) (Event.Take worker slice) }
+        ensures plan { self.new.pairs ≡ self.old.pairs }
+        ensures workers { self.new.workers ≡ self.old.workers }
+        ensures effect { state_of self.new ≡ after_take self.old.pairs (state_of self.old) worker slice }
+        ensures good { Good self.new.pairs (state_of self.new) }
+    {
+        hold_slice(&self.plan, &mut self.standings, slice, worker);
+        self.taken[slice] = true;
+    }
+
+    fn decide(&mut self, worker: u32, pair: usize)
+        requires { IsEnabled self.old.pairs self.old.workers (state_of self.old) (Event.Decide worker pair) }
+        ensures plan { self.new.pairs ≡ self.old.pairs }
+        ensures workers { self.new.workers ≡ self.old.workers }
+        ensures effect { state_of self.new ≡ after_decide self.old.pairs (state_of self.old) worker pair }
+        ensures good { Good self.new.pairs (state_of self.new) }
+    {
+        let decision = decision_of(&self.plan, &self.standings, pair);
+        let standing = &mut self.standings[pair];
+        standing.decision = Some(decision);
+        standing.holder = None;
+        owe(&self.plan, &mut self.standings, pair, Side::Low, worker);
+        owe(&self.plan, &mut self.standings, pair, Side::High, worker);
+    }
+
+    fn tell(&mut self, worker: u32, pair: usize, side: Side)
+        requires { IsEnabled self.old.pairs self.old.workers (state_of self.old) (Event.Tell worker pair side) }
+        ensures plan { self.new.pairs ≡ self.old.pairs }
+        ensures workers { self.new.workers ≡ self.old.workers }
+        ensures effect { state_of self.new ≡ after_tell self.old.pairs (state_of self.old) worker pair side }
+        ensures good { Good self.new.pairs (state_of self.new) }
+    {
+        tell_link(&self.plan, &mut self.standings[pair], pair, side, worker);
+    }
+
+    /// Whether a slice is taken.
+    pub fn taken(&self, slice: usize) -> bool
+        requires { slice < slice_count self.now.pairs }
+        ensures { result ≡ (state_of self.now).taken slice }
+    {
+        self.taken[slice]
+    }
+
+    /// What is decided of a pair: whether it fired, or nothing.
+    pub fn decided(&self, pair: usize) -> Option<bool>
+        requires { pair < length self.now.pairs }
+        ensures { result ≡ (state_of self.now).decision pair }
+    {
+        self.standings[pair].fired()
+    }
+
+    /// How many links of a pair are not told.
+    pub fn left(&self, pair: usize) -> u8
+        requires { pair < length self.now.pairs }
+        ensures { result ≡ left_of self.now.pairs (state_of self.now) pair }
+    {
+        untold(&self.plan, &self.standings[pair], pair)
+    }
+
+    /// Whether a worker holds a pair.
+    pub fn holds(&self, worker: u32, pair: usize) -> bool
+        requires { pair < length self.now.pairs }
+        ensures { result ≡ (state_of self.now).holds worker pair }
+    {
+        is_worker(self.standings[pair].holder, worker)
+    }
+
+    /// Whether a worker owes the link of a pair on a side.
+    pub fn owes(&self, worker: u32, pair: usize, side: Side) -> bool
+        requires { pair < length self.now.pairs }
+        ensures { result ≡ (state_of self.now).owes worker pair side }
+    {
+        is_worker(self.standings[pair].ower(side), worker)
+    }
+}

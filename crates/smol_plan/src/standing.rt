@@ -48,7 +48,7 @@ impl Decision {
 }
 
 impl Standing {
-    ghost use Rattle.smol_plan.specs.Standing.{fresh, told_of, ower_of, set_told, set_ower};
+    ghost use Rattle.smol_plan.specs.Standing.{fresh, fired_of, told_of, ower_of, set_told, set_ower};
 
     /// Of a pair of which nothing has happened.
     pub(crate) fn fresh() -> Self
@@ -61,6 +61,16 @@ impl Standing {
             told_high: false,
             ower_low: None,
             ower_high: None,
+        }
+    }
+
+    /// Whether the pair fired, where it is decided.
+    pub(crate) fn fired(&self) -> Option<bool>
+        ensures { result ≡ fired_of self.now.decision }
+    {
+        match self.decision {
+            Some(decision) => Some(decision.fired),
+            None => None,
         }
     }
 
