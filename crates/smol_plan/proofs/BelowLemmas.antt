@@ -1,6 +1,6 @@
 -- Searches and tests over the numbers below a bound.
-use Rattle.std.proofs.Common.{◌≡◌, ℕ, zero, suc, ◌+◌, ◌<◌, ◌≤◌, Bool, true, false, not, ◌&&◌, ◌||◌, Option, Some, None, ◌⊎◌, refl, sym, ◌∙◌, ap, subst, inl, inr, ⊎_elim, arith, rules}
-use Rattle.std.proofs.lemmas.Bool.{cases_Bool, cases_eq, cases_order, or_cases, or_parts, or_left, or_right, or_from, false≢true, both_ways}
+use Rattle.std.proofs.Common.{◌≡◌, ℕ, zero, suc, ◌<◌, ◌≤◌, Bool, true, false, ◌||◌, Some, None, ◌⊎◌, refl, ◌∙◌, ap, inl, inr, ⊎_elim, arith}
+use Rattle.std.proofs.lemmas.Bool.{cases_Bool, cases_eq, cases_order, or_cases, or_parts, false≢true, both_ways}
 use Rattle.smol_plan.specs.Links.{last_below}
 use Rattle.smol_plan.specs.Machine.{any_below}
 
@@ -42,12 +42,12 @@ pub last_below_is : (p : ℕ → Bool) (n i : ℕ) → i < n → p i ≡ true �
 last_below_is p n i l e none = ⊎_elim
     (λ (h : FindsNone p n). absurd (both_ways (p i) (h.none i l) e))
     (λ (h : (j : ℕ) × FindsLast p n j). ⊎_elim
-      (λ (q : h.0 ≡ i). rw (← q) h.1.is)
-      (λ q. ⊎_elim
-        (λ (r : h.0 < i). absurd (both_ways (p i) (h.1.none_above i r l) e))
-        (λ (r : i < h.0). absurd (both_ways (p h.0) (none h.0 r h.1.below) h.1.passes))
-        q)
-      (cases_order h.0 i))
+    (λ (q : h.0 ≡ i). rw (← q) h.1.is)
+    (λ q. ⊎_elim
+    (λ (r : h.0 < i). absurd (both_ways (p i) (h.1.none_above i r l) e))
+    (λ (r : i < h.0). absurd (both_ways (p h.0) (none h.0 r h.1.below) h.1.passes))
+    q)
+    (cases_order h.0 i))
     (last_below_cases p n)
 
 -- a test that some number below n passes, and the number

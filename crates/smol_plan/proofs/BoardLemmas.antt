@@ -1,17 +1,17 @@
 -- What the standings of a board say of its state.
-use Rattle.std.proofs.Common.{◌≡◌, ℕ, zero, suc, ◌+◌, ◌<◌, ◌≤◌, Bool, true, false, not, ◌&&◌, ◌||◌, ◌==◌, nat_le, nat_lt, List, length, get_or, set, get_or-set_same, get_or-set_other, Option, Some, None, ◌⊎◌, refl, sym, ◌∙◌, ap, inl, inr, ⊎_elim, arith, if◌then◌else◌}
-use Rattle.std.proofs.lemmas.Bool.{cases_Bool, cases_eq, and_from, and_parts, and_right, eq-eqb, eqb-true, false_from_ne_true, false≢true}
+use Rattle.std.proofs.Common.{◌≡◌, ℕ, suc, ◌<◌, Bool, true, false, not, ◌&&◌, ◌||◌, nat_le, nat_lt, List, length, set, get_or-set_same, get_or-set_other, Option, Some, refl, sym, ◌∙◌, ap, ⊎_elim, arith, if◌then◌else◌}
+use Rattle.std.proofs.lemmas.Bool.{cases_eq, and_from, and_parts, and_right, eq-eqb, eqb-true, false_from_ne_true}
 use Rattle.smol_plan.specs.declared.pair.Pair.{Pair}
 use Rattle.smol_plan.specs.declared.pair.Side.{Side}
 use Rattle.smol_plan.specs.declared.pair.Side.TheVariants.{Low, High}
 use Rattle.smol_plan.specs.declared.standing.Decision.{Decision}
 use Rattle.smol_plan.specs.declared.standing.Standing.{Standing}
-use Rattle.smol_plan.specs.Pair.{pair_at, molecule_at}
+use Rattle.smol_plan.specs.Pair.{molecule_at}
 use Rattle.smol_plan.specs.Matching.{fires}
 use Rattle.smol_plan.specs.Links.{has_at, source_of, IsLastBefore}
 use Rattle.smol_plan.specs.Machine.{any_below, has_no_link}
 use Rattle.smol_plan.specs.Standing.{fresh, is_taken_on, decision_after, set_ower}
-use Rattle.smol_plan.specs.Board.{standing_at, is_taken_before, TellsTaken, SourceTells, SourcesTell, comes_by, after_owing}
+use Rattle.smol_plan.specs.Board.{standing_at, is_taken_before, TellsTaken, comes_by, after_owing}
 use Rattle.smol_plan.proofs.BelowLemmas.{any_below_gap}
 use Rattle.smol_plan.proofs.MatchingLemmas.{serial_from_at}
 use Rattle.smol_plan.proofs.NeighborLemmas.{has_on_side}
@@ -54,8 +54,10 @@ TellsTaken-after pairs j d low high l a b e side = go side
   where
     fired : not (low || high) ≡ fires pairs j
     fired = rw (a, b) (sym (fires_free pairs j l))
+
     more : (m : ℕ) (taken : Bool) → taken ≡ is_taken_before pairs m j → has_at pairs m j ≡ true → (taken || not (low || high)) ≡ is_taken_before pairs m (suc j)
     more m taken t h = rw (fired, t, h) (or_swap (is_taken_before pairs m j) (fires pairs j))
+
     go : (side : Side) → is_taken_on d side ≡ is_taken_before pairs (molecule_at pairs j side) (suc j)
     go Low =
         ap (λ x. is_taken_on x Low) e ∙ more (molecule_at pairs j Low) low a (has_on_side pairs (molecule_at pairs j Low) j Low refl)

@@ -1,10 +1,9 @@
 -- The entries of a list of pairs, two for each, and their order.
 use Rattle.std.proofs.Common.{◌≡◌, ℕ, zero, suc, ◌+◌, ◌<◌, ◌≤◌, Bool, true, false, ◌&&◌, ◌==◌, List, [], ◌∷◌, length, get_or, Ordering, ◌⊎◌, refl, sym, ◌∙◌, ap, inl, inr, ⊎_elim, arith, if◌then◌else◌, add-zero, add-one}
-use Rattle.std.proofs.Math.Nat.{add-suc}
 use Rattle.std.specs.List.{sum_by}
 use Rattle.std.specs.List.Sorted.{IsPermutation}
 use Rattle.std.specs.Ordering.{is_lt, nat_cmp, ordering_then}
-use Rattle.std.proofs.lemmas.Bool.{cases_Bool, cases_eq, cases_order, cases_lt, lt-ltb, le-ltb, eq-eqb, eqb-true, ne_eqb, and_parts, false≢true, both_ways}
+use Rattle.std.proofs.lemmas.Bool.{cases_eq, cases_order, cases_lt, lt-ltb, le-ltb, eq-eqb, eqb-true, ne_eqb, and_parts, false≢true}
 use Rattle.std.proofs.lemmas.Grind.{get_or_moved}
 use Rattle.std.proofs.lemmas.List.Sums.{sum_by-cons}
 use Rattle.std.proofs.lemmas.List.Sorted.{sum_by-IsPermutation}
@@ -25,6 +24,7 @@ no_later_from a b p q o e = ⊎_elim
   where
     wrong_molecule : b < a → ⊥
     wrong_molecule h = false≢true (sym (rw (lt-ltb b a h) at e))
+
     wrong_pair : a ≡ b → q < p → ⊥
     wrong_pair same h =
         let level : b ≤ a = omega arith in
@@ -166,27 +166,33 @@ AreEntries-from_permutation pairs entries perm up =
     from q l =
         let r = get_or_moved (entries_from 0 pairs) perm.moves q (record { molecule = 0; pair = 0; side = Low }) perm.below (rw (← perm.is) l) in
         (r.1.0, r.1.1, ap (λ es. entry_at es q) perm.is ∙ r.1.2)
+
     gives : (k : ℕ) → k < length pairs → pair_at pairs (0 + k) ≡ pair_at pairs k
     gives k l =
         let same : 0 + k ≡ k = omega arith in
         ap (pair_at pairs) same
+
     in_list : (q : ℕ) → q < length entries → (entry_at entries q).pair < length pairs
     in_list q l =
         let r = from q l in
         let s = entries_real (pair_at pairs) 0 pairs gives r.0 r.1 in
         omega (arith, ap (λ x. x.pair) r.2, s.0)
+
     molecule : (q : ℕ) → q < length entries → (entry_at entries q).molecule ≡ molecule_at pairs (entry_at entries q).pair (entry_at entries q).side
     molecule q l =
         let r = from q l in
         let s = entries_real (pair_at pairs) 0 pairs gives r.0 r.1 in
         rw r.2 s.1
+
     one : (j : ℕ) (side : Side) → j < length pairs → sum_by (tally j side) entries ≡ 1
     one j side l =
         sum_by-IsPermutation (tally j side) _ _ perm ∙ tally_inside j side 0 pairs (omega arith) (omega arith)
+
     found : (j : ℕ) (side : Side) → j < length pairs → (q : ℕ) × (q < length entries) × IsOf (entry_at entries q) j side
     found j side l =
         let r = some_part (tally j side) entries (omega (arith, one j side l)) in
         (r.0, r.1, IsOf-from_tally j side _ r.2)
+
     apart : (p q j : ℕ) (side : Side) → p < q → q < length entries → IsOf (entry_at entries p) j side → IsOf (entry_at entries q) j side → ⊥
     apart p q j side h l a b =
         let inside : j < length pairs = omega (arith, b.of_pair, in_list q l) in

@@ -1,6 +1,5 @@
 -- Each event that is enabled keeps a state good.
-use Rattle.std.proofs.Common.{◌≡◌, ℕ, zero, ◌<◌, Bool, true, false, not, ◌&&◌, ◌||◌, ◌==◌, nat_lt, List, [], ◌∷◌, length, Option, Some, None, ◌⊎◌, refl, sym, ◌∙◌, ap, inl, inr, ⊎_elim, arith, if◌then◌else◌}
-use Rattle.std.specs.Option.{is_some}
+use Rattle.std.proofs.Common.{◌≡◌, ℕ, ◌<◌, Bool, true, false, not, ◌&&◌, ◌==◌, nat_lt, List, [], ◌∷◌, length, Option, Some, None, ◌⊎◌, refl, sym, ◌∙◌, ap, inl, inr, ⊎_elim}
 use Rattle.std.proofs.lemmas.Bool.{cases_Bool, or_cases, or_left, or_right, or_from, or_parts, and_parts, and_from, and_left, and_right, both_ways, eqb-true, eq-eqb, ltb-true, lt-ltb, false≢true, not_from_false, not_from_true, not-true}
 use Rattle.smol_plan.specs.declared.pair.Pair.{Pair}
 use Rattle.smol_plan.specs.declared.pair.Side.{Side}
@@ -10,11 +9,11 @@ use Rattle.smol_plan.specs.declared.event.Event.TheVariants.{Take, Decide, Tell}
 use Rattle.smol_plan.specs.Pair.{is_side}
 use Rattle.smol_plan.specs.Matching.{fires}
 use Rattle.smol_plan.specs.Links.{source_of, is_link, is_number, comes_from}
-use Rattle.smol_plan.specs.Machine.{State, first_state, slice_of, is_decided, has_no_link, left_of, is_beaten, after_take, after_decide, with_told, after_tell, effect, effects, IsAllowed, AreEnabled}
+use Rattle.smol_plan.specs.Machine.{State, first_state, slice_of, is_decided, has_no_link, left_of, after_take, after_decide, with_told, after_tell, effect, effects, IsAllowed, AreEnabled}
 use Rattle.smol_plan.specs.Good.{Good, HasDecidedSource, IsSettled, IsOwed, IsQuiet, IsDecidedWell, IsHeldWell, IsHeld, IsUntouched, IsIdle}
 use Rattle.smol_plan.proofs.SideLemmas.{is_side-true}
 use Rattle.smol_plan.proofs.LinkLemmas.{link_inside}
-use Rattle.smol_plan.proofs.GoodLemmas.{AllTold, AllTold-from_left, left_of-zero, told_source, owed_source, owed_once, decided_told, is_beaten-fires, decided_source_cases}
+use Rattle.smol_plan.proofs.GoodLemmas.{AllTold, AllTold-from_left, left_of-zero, owed_source, owed_once, is_beaten-fires}
 
 -- a pair without links has all of its links told
 no_link_told : (pairs : List Pair) (state : State) (j : ℕ) → has_no_link pairs j ≡ true → AllTold pairs state j
@@ -37,11 +36,13 @@ Good-first pairs =
   where
     not_some : (fired : Bool) → None ≡ Some fired → ⊥
     not_some fired e = cc
+
     unlinked_on : (j : ℕ) (side : Side) → AllTold pairs first_state j → not (is_link pairs j side) ≡ true
     unlinked_on j side t = ⊎_elim
         (λ (e : is_link pairs j side ≡ true). absurd (false≢true (t side e)))
         (λ (e : is_link pairs j side ≡ false). not_from_false _ e)
         (cases_Bool (is_link pairs j side))
+
     unlinked : (j : ℕ) → AllTold pairs first_state j → has_no_link pairs j ≡ true
     unlinked j t = and_from _ _ (unlinked_on j Low t) (unlinked_on j High t)
 
@@ -79,6 +80,7 @@ module _ (pairs : List Pair) (state : State) (worker slice : ℕ) (untaken : sta
             all_told = left_of-zero pairs state j (no_link_told pairs state j h.no_link);
             alone = λ v hv. ⊎_elim (λ new. (given_from v j new).by ∙ sym h.by) (λ old. absurd (both_ways _ ((given_idle w j h).nobody v) old)) (or_cases _ _ hv);
           }
+
       second : state.holds w j ≡ true → IsHeldWell pairs state w j → IsHeldWell pairs (after_take pairs state worker slice) w j
       second old h =
           record {
@@ -364,6 +366,7 @@ module _ (pairs : List Pair) (state : State) (worker pair : ℕ) (side : Side) (
     where
       nobody_at : (v : ℕ) → j ≡ pair → state.holds v j ≡ true → ⊥
       nobody_at v q h = both_ways _ (held_by_nobody v) (rw q at h)
+
       first : IsReceived w j → IsHeldWell pairs (after_tell pairs state worker pair side) w j
       first h =
           record {
@@ -372,6 +375,7 @@ module _ (pairs : List Pair) (state : State) (worker pair : ℕ) (side : Side) (
             all_told = h.all_told;
             alone = λ v hv. ⊎_elim (λ new. (received_from v j new).by ∙ sym h.by) (λ old. absurd (nobody_at v h.is old)) (or_cases _ _ hv);
           }
+
       second : state.holds w j ≡ true → IsHeldWell pairs state w j → IsHeldWell pairs (after_tell pairs state worker pair side) w j
       second old h =
           record {

@@ -1,15 +1,15 @@
 -- What a good state tells of its links and pairs.
-use Rattle.std.proofs.Common.{◌≡◌, ℕ, zero, suc, ◌+◌, ◌<◌, Bool, true, false, not, ◌&&◌, ◌||◌, ◌==◌, List, length, Option, Some, None, ◌⊎◌, refl, sym, ◌∙◌, ap, subst, inl, inr, ⊎_elim, arith, if◌then◌else◌}
+use Rattle.std.proofs.Common.{◌≡◌, ℕ, zero, suc, ◌+◌, ◌<◌, Bool, true, false, not, ◌&&◌, ◌==◌, List, length, Option, Some, None, ◌⊎◌, refl, sym, ◌∙◌, ap, inl, inr, ⊎_elim, arith, if◌then◌else◌}
 use Rattle.std.specs.Option.{is_some}
-use Rattle.std.proofs.lemmas.Bool.{cases_Bool, cases_order, or_cases, or_left, both_ways, eqb-true, false≢true}
+use Rattle.std.proofs.lemmas.Bool.{cases_order, or_cases, both_ways, eqb-true, false≢true}
 use Rattle.smol_plan.specs.declared.pair.Pair.{Pair}
 use Rattle.smol_plan.specs.declared.pair.Side.{Side}
 use Rattle.smol_plan.specs.declared.pair.Side.TheVariants.{Low, High}
-use Rattle.smol_plan.specs.Pair.{molecule_at, pair_at, has_molecule, shares_molecule}
+use Rattle.smol_plan.specs.Pair.{molecule_at, pair_at, shares_molecule}
 use Rattle.smol_plan.specs.Matching.{fires}
 use Rattle.smol_plan.specs.Links.{has_at, source_of, is_link, IsLastBefore}
-use Rattle.smol_plan.specs.Machine.{State, is_decided, is_fired, is_untold, left_of, has_no_link, any_below, is_beaten}
-use Rattle.smol_plan.specs.Good.{Good, HasDecidedSource, IsQuiet, IsOwed, IsSettled}
+use Rattle.smol_plan.specs.Machine.{State, is_decided, is_fired, is_untold, left_of, is_beaten}
+use Rattle.smol_plan.specs.Good.{Good, HasDecidedSource, IsOwed, IsSettled}
 use Rattle.smol_plan.proofs.BelowLemmas.{any_below_same}
 use Rattle.smol_plan.proofs.LinkLemmas.{SourceIs, no_source, a_source, source_cases}
 use Rattle.smol_plan.proofs.MatchingLemmas.{fires_at}
@@ -21,6 +21,7 @@ decided_source_cases pairs state j side = go (source_of pairs j side) refl
     at_source : (i : ℕ) → source_of pairs j side ≡ Some i → (b : Bool) → is_decided state i ≡ b → HasDecidedSource pairs state j side ⊎ ¬ HasDecidedSource pairs state j side
     at_source i e true d = inl record { source = i; is = e; decided = d }
     at_source i e false d = inr (λ h. let both : Some h.source ≡ Some i = sym h.is ∙ e in let same : h.source ≡ i = cc in both_ways (is_decided state i) d (rw same at h.decided))
+
     go : (o : Option ℕ) → source_of pairs j side ≡ o → HasDecidedSource pairs state j side ⊎ ¬ HasDecidedSource pairs state j side
     go None e = inr (λ h. let both : Some h.source ≡ None = sym h.is ∙ e in cc)
     go (Some i) e = at_source i e (is_decided state i) refl
@@ -114,6 +115,7 @@ EarlierDecided-step pairs state g j l t before side i h e = go (source_cases pai
     further k last d lt =
         let at = on_a_side pairs _ k last.has in
         before k last.earlier (decided_inside pairs state g k d) (decided_told pairs state g k d) at.0 i lt (rw at.1 e)
+
     go : SourceIs pairs j side → is_decided state i ≡ true
     go (no_source n none) = absurd (both_ways _ (none i h) e)
     go (a_source k s last) =
@@ -149,5 +151,6 @@ is_beaten-fires pairs state g j l t =
         (EarlierDecided-from_told pairs state g j l t Low i h)
         (EarlierDecided-from_told pairs state g j l t High i h)
         (or_cases _ _ e)
+
     value : (i : ℕ) → i < j → shares_molecule (pair_at pairs i) (pair_at pairs j) ≡ true → is_fired state i ≡ fires pairs i
     value i h e = rw (decided_value pairs state g i (decided i h e)) refl

@@ -1,11 +1,10 @@
 -- What the searches for earlier and later pairs give.
-use Rattle.std.proofs.Common.{◌≡◌, ℕ, nat_lt, ◌<◌, Bool, true, false, List, length, Option, Some, None, ◌⊎◌, refl, sym, ◌∙◌, ap, inl, inr, ⊎_elim, arith}
-use Rattle.std.proofs.lemmas.Bool.{lt-ltb, ltb-true, cases_Bool}
-use Rattle.std.specs.Option.{is_some}
+use Rattle.std.proofs.Common.{◌≡◌, ℕ, nat_lt, ◌<◌, Bool, true, false, List, length, Some, None, refl, sym, ◌∙◌, ⊎_elim}
+use Rattle.std.proofs.lemmas.Bool.{lt-ltb, ltb-true}
 use Rattle.smol_plan.specs.declared.pair.Pair.{Pair}
 use Rattle.smol_plan.specs.declared.pair.Side.{Side}
 use Rattle.smol_plan.specs.Pair.{molecule_at}
-use Rattle.smol_plan.specs.Links.{has_at, last_below, source_of, is_link, IsLastBefore}
+use Rattle.smol_plan.specs.Links.{has_at, last_below, source_of, IsLastBefore}
 use Rattle.smol_plan.proofs.BelowLemmas.{FindsNone, FindsLast, last_below_cases, last_below_is}
 
 -- the search for the source of a link, within the list

@@ -1,16 +1,13 @@
 -- The links that stand in the sorted entries of a list of pairs.
-use Rattle.std.proofs.Common.{◌≡◌, ◌≢◌, ℕ, zero, suc, ◌+◌, ◌-◌, ◌<◌, ◌≤◌, Bool, true, false, ◌&&◌, ◌==◌, List, [], ◌∷◌, length, get_or, set, ◌⊎◌, refl, sym, ◌∙◌, ap, inl, inr, ⊎_elim, arith, if◌then◌else◌, length-set, get_or-set_same, get_or-set_other}
-use Rattle.std.proofs.lemmas.Bool.{cases_Bool, cases_eq, cases_order, cases_lt, eq-eqb, eqb-true, ne_eqb, and_parts, and_from, and_left, false≢true, both_ways, or_left, or_right, false_from_ne_true}
-use Rattle.smol_plan.specs.declared.pair.Pair.{Pair}
+use Rattle.std.proofs.Common.{◌≡◌, ℕ, ◌+◌, ◌-◌, ◌<◌, ◌≤◌, Bool, true, false, ◌&&◌, ◌==◌, List, length, set, refl, sym, ◌∙◌, ap, inl, inr, ⊎_elim, arith, if◌then◌else◌, length-set, get_or-set_same, get_or-set_other}
+use Rattle.std.proofs.lemmas.Bool.{cases_eq, eq-eqb, eqb-true, ne_eqb, and_parts, and_from, both_ways}
 use Rattle.smol_plan.specs.declared.pair.Side.{Side}
 use Rattle.smol_plan.specs.declared.pair.Side.TheVariants.{Low, High}
 use Rattle.smol_plan.specs.declared.plan.Entry.{Entry}
 use Rattle.smol_plan.specs.declared.plan.Links.{Links}
-use Rattle.smol_plan.specs.Pair.{is_side, pair_at, molecule_at, IsOrdered}
-use Rattle.smol_plan.specs.Links.{has_at, IsLastBefore, IsNextAfter}
-use Rattle.smol_plan.specs.Linked.{unlinked, links_at, earlier_of, later_of, entry_at, with_earlier, with_later, joined, IsOf, IsJoint, IsJoined, IsAlone, SoFar, LinkedUpTo, AreUnlinked, AreInside}
+use Rattle.smol_plan.specs.Pair.{is_side}
+use Rattle.smol_plan.specs.Linked.{unlinked, links_at, earlier_of, later_of, entry_at, with_earlier, with_later, joined, IsOf, IsJoint, SoFar, LinkedUpTo, AreUnlinked, AreInside}
 use Rattle.smol_plan.proofs.SideLemmas.{is_side-true, is_side-refl}
-use Rattle.smol_plan.proofs.EntryLemmas.{AreEntries, rising_far}
 
 -- a write of one kind of neighbor leaves the other kind
 earlier_of-with_later : (l : Links) (s side : Side) (i : ℕ) → earlier_of (with_later l side i) s ≡ earlier_of l s
@@ -50,14 +47,17 @@ earlier_joined links x y x_in y_in j s = second (j == x.pair) refl ∙ first (j 
   where
     one : List Links
     one = set links y.pair (with_earlier (links_at links y.pair) y.side x.pair)
+
     there : x.pair < length one
     there = rw (length-set links y.pair (with_earlier (links_at links y.pair) y.side x.pair)) x_in
+
     second : (b : Bool) → (j == x.pair) ≡ b → earlier_of (links_at (joined links x y) j) s ≡ earlier_of (links_at one j) s
     second true e =
         let same : j ≡ x.pair = eqb-true _ _ e in
         ap (λ l. earlier_of l s) (links_at-set one x.pair j (with_later (links_at one x.pair) x.side y.pair) there) ∙ rw e (earlier_of-with_later (links_at one x.pair) s x.side y.pair ∙ ap (λ k. earlier_of (links_at one k) s) (sym same))
     second false e =
         ap (λ l. earlier_of l s) (links_at-set one x.pair j (with_later (links_at one x.pair) x.side y.pair) there) ∙ rw e refl
+
     first : (b : Bool) → (j == y.pair) ≡ b → earlier_of (links_at one j) s ≡ (if (j == y.pair) && is_side s y.side then x.pair else earlier_of (links_at links j) s)
     first true e =
         let same : j ≡ y.pair = eqb-true _ _ e in
@@ -70,14 +70,17 @@ later_joined links x y x_in y_in j s = second (j == x.pair) refl
   where
     one : List Links
     one = set links y.pair (with_earlier (links_at links y.pair) y.side x.pair)
+
     there : x.pair < length one
     there = rw (length-set links y.pair (with_earlier (links_at links y.pair) y.side x.pair)) x_in
+
     first : (k : ℕ) (b : Bool) → (k == y.pair) ≡ b → later_of (links_at one k) s ≡ later_of (links_at links k) s
     first k true e =
         let same : k ≡ y.pair = eqb-true _ _ e in
         ap (λ l. later_of l s) (links_at-set links y.pair k (with_earlier (links_at links y.pair) y.side x.pair) y_in) ∙ rw e (later_of-with_earlier (links_at links y.pair) s y.side x.pair ∙ ap (λ i. later_of (links_at links i) s) (sym same))
     first k false e =
         ap (λ l. later_of l s) (links_at-set links y.pair k (with_earlier (links_at links y.pair) y.side x.pair) y_in) ∙ rw e refl
+
     second : (b : Bool) → (j == x.pair) ≡ b → later_of (links_at (joined links x y) j) s ≡ (if (j == x.pair) && is_side s x.side then y.pair else later_of (links_at links j) s)
     second true e =
         let same : j ≡ x.pair = eqb-true _ _ e in
@@ -103,9 +106,9 @@ module _ (entries : List Entry) (of other : ℕ → Entry) (j : ℕ) (side : Sid
       inl record {
         is = h.is;
         none = λ q joint entry. ⊎_elim
-          (λ (same : q ≡ last). never (rw (← same) joint) (rw (← same) entry))
-          (λ (n : q ≡ last → ⊥). h.none q (before_last q k last e n joint) entry)
-          (cases_eq q last);
+            (λ (same : q ≡ last). never (rw (← same) joint) (rw (← same) entry))
+            (λ (n : q ≡ last → ⊥). h.none q (before_last q k last e n joint) entry)
+            (cases_eq q last);
       }
   SoFar-kept k last v e never (inr h) =
       inr (h.0, record { joint = wider h.0 k h.1.joint; entry = h.1.entry; is = h.1.is })

@@ -1,9 +1,9 @@
 -- Serial matching, pair by pair.
-use Rattle.std.proofs.Common.{◌≡◌, ℕ, zero, suc, ◌+◌, ◌<◌, Bool, true, false, not, ◌&&◌, ◌||◌, List, [], ◌∷◌, ◌++◌, length, get_or, drop, drop-cons, append_assoc, add-one, refl, sym, ◌∙◌, ap, inl, inr, ⊎_elim, arith}
+use Rattle.std.proofs.Common.{◌≡◌, ℕ, zero, suc, ◌+◌, ◌<◌, Bool, true, false, not, ◌&&◌, ◌||◌, List, [], ◌∷◌, ◌++◌, length, get_or, drop, drop-cons, append_assoc, add-one, refl, sym, ◌∙◌, ap, arith}
 use mathlib.Core.Path.{fun_ext}
 use Rattle.smol_plan.specs.declared.pair.Pair.{Pair}
 use Rattle.smol_plan.specs.Pair.{has_molecule, shares_molecule, pair_at, no_pair}
-use Rattle.smol_plan.specs.Matching.{is_free, taken_after, serial_from, serial, fires}
+use Rattle.smol_plan.specs.Matching.{is_free, taken_after, serial_from, fires}
 use Rattle.smol_plan.specs.Machine.{any_below}
 use Rattle.smol_plan.proofs.BelowLemmas.{any_below_front, any_below_or, any_below_same}
 
@@ -62,5 +62,6 @@ serial_more fired taken next pairs answers i b l free after so_far =
   where
     same : next ≡ taken_after taken (pair_at pairs i)
     same = fun_ext after
+
     here : (is_free taken (pair_at pairs i) ∷ serial_from next (drop (suc i) pairs)) ≡ serial_from taken (drop i pairs)
     here = rw (drop-cons pairs i no_pair l, same) refl

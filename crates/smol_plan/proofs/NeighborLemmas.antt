@@ -1,5 +1,5 @@
 -- The links that the sorted entries give are the earlier and later neighbors.
-use Rattle.std.proofs.Common.{◌≡◌, ℕ, zero, suc, ◌+◌, ◌-◌, ◌<◌, ◌≤◌, Bool, true, false, ◌==◌, ◌||◌, List, length, get_or, ◌⊎◌, refl, sym, ◌∙◌, ap, inl, inr, ⊎_elim, arith}
+use Rattle.std.proofs.Common.{◌≡◌, ℕ, ◌+◌, ◌-◌, ◌<◌, ◌≤◌, true, false, List, length, refl, sym, ◌∙◌, ap, inl, inr, ⊎_elim, arith}
 use Rattle.std.proofs.lemmas.Bool.{cases_order, cases_lt, eq-eqb, or_left, or_right, false_from_ne_true}
 use Rattle.smol_plan.specs.declared.pair.Pair.{Pair}
 use Rattle.smol_plan.specs.declared.pair.Side.{Side}
@@ -7,8 +7,8 @@ use Rattle.smol_plan.specs.declared.pair.Side.TheVariants.{Low, High}
 use Rattle.smol_plan.specs.declared.plan.Entry.{Entry}
 use Rattle.smol_plan.specs.declared.plan.Links.{Links}
 use Rattle.smol_plan.specs.Pair.{pair_at, molecule_at, no_pair, IsOrdered}
-use Rattle.smol_plan.specs.Links.{has_at, IsLastBefore, IsNextAfter}
-use Rattle.smol_plan.specs.Linked.{links_at, earlier_of, later_of, entry_at, IsOf, IsJoint, IsJoined, IsAlone, SoFar, LinkedUpTo, IsEarlier, IsLater, IsLinked, IsNoLater}
+use Rattle.smol_plan.specs.Links.{has_at}
+use Rattle.smol_plan.specs.Linked.{entry_at, IsOf, IsJoint, SoFar, LinkedUpTo, IsEarlier, IsLater, IsLinked, IsNoLater}
 use Rattle.smol_plan.proofs.GoodLemmas.{on_a_side}
 use Rattle.smol_plan.proofs.EntryLemmas.{AreEntries, rising_far}
 
@@ -75,12 +75,14 @@ module _ (pairs : List Pair) (entries : List Entry) (ordered : IsOrdered pairs) 
     where
       lower : q < length entries
       lower = omega (arith, joint.inside)
+
       not_same : (entry_at entries q).pair ≡ (entry_at entries (q + 1)).pair → ⊥
       not_same e =
           let j = (entry_at entries (q + 1)).pair in
           let first : molecule_at pairs (entry_at entries q).pair (entry_at entries q).side ≡ molecule_at pairs j (entry_at entries q).side = rw e refl in
           let sides = one_side pairs ordered j (entry_at entries q).side (entry_at entries (q + 1)).side (h.in_list (q + 1) joint.inside) (sym first ∙ sym (h.molecule q lower) ∙ joint.same ∙ h.molecule (q + 1) joint.inside) in
           h.apart q (q + 1) j (entry_at entries (q + 1)).side (omega arith) joint.inside record { of_pair = e; on_side = sides } record { of_pair = refl; on_side = refl }
+
       go : IsNoLater (entry_at entries q) (entry_at entries (q + 1)) → (entry_at entries q).pair < (entry_at entries (q + 1)).pair
       go (inl a) = absurd (omega (arith, joint.same))
       go (inr a) = ⊎_elim

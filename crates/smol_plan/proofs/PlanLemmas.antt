@@ -1,11 +1,11 @@
 -- What the links of a plan say of the pairs before and after.
-use Rattle.std.proofs.Common.{◌≡◌, ℕ, ◌<◌, Bool, true, false, ◌++◌, List, length, get_or, take, drop, Option, Some, None, ◌⊎◌, refl, sym, ◌∙◌, ap, ap₂, inl, inr, ⊎_elim, arith}
+use Rattle.std.proofs.Common.{◌≡◌, ℕ, ◌<◌, false, ◌++◌, List, length, get_or, take, drop, Option, Some, None, refl, sym, ◌∙◌, ap, ap₂, inl, inr, ⊎_elim, arith}
 use Rattle.std.proofs.lemmas.Bool.{both_ways, cases_order}
 use Rattle.std.proofs.lemmas.List.{get_or_read, drop_all, take_all, append-nil}
 use Rattle.smol_plan.specs.declared.pair.Pair.{Pair}
 use Rattle.smol_plan.specs.declared.pair.Side.{Side}
 use Rattle.smol_plan.specs.Pair.{molecule_at, IsOrdered}
-use Rattle.smol_plan.specs.Links.{has_at, source_of, IsLastBefore, IsNextAfter}
+use Rattle.smol_plan.specs.Links.{has_at, source_of, IsNextAfter}
 use Rattle.smol_plan.specs.declared.plan.Links.{Links}
 use Rattle.smol_plan.specs.Linked.{unlinked, earlier_of, later_of, IsEarlier, IsLater, IsLinked}
 use Rattle.smol_plan.proofs.LinkLemmas.{SourceIs, no_source, a_source, source_cases, source_is, source_tells, link_inside}
@@ -54,9 +54,9 @@ pub one_next : (pairs : List Pair) (m j k i : ℕ) → IsNextAfter pairs m j k �
 one_next pairs m j k i h w = ⊎_elim
     (λ e. e)
     (λ n. ⊎_elim
-      (λ (l : k < i). absurd (both_ways _ (w.none_between k h.later l) h.has))
-      (λ (l : i < k). absurd (both_ways _ (h.none_between i w.later l) w.has))
-      n)
+    (λ (l : k < i). absurd (both_ways _ (w.none_between k h.later l) h.has))
+    (λ (l : i < k). absurd (both_ways _ (h.none_between i w.later l) w.has))
+    n)
     (cases_order k i)
 
 -- a later neighbor that is the pair itself is none, so that this pair is no source there

@@ -1,6 +1,6 @@
 -- What a good state comes to: it follows serial matching, goes on where it can, and ends with every pair decided.
-use Rattle.std.proofs.Common.{◌≡◌, ℕ, zero, suc, ◌+◌, ◌<◌, ◌/◌, Bool, true, false, not, ◌&&◌, ◌||◌, ◌==◌, List, length, Option, Some, None, ◌⊎◌, refl, sym, ◌∙◌, ap, inl, inr, ⊎_elim, arith}
-use Rattle.std.proofs.lemmas.Bool.{cases_Bool, cases_order, or_cases, or_left, or_right, or_from, or_parts, and_parts, and_from, both_ways, eq-eqb, eqb-true, false≢true, not-true, not-false}
+use Rattle.std.proofs.Common.{◌≡◌, ℕ, zero, suc, ◌<◌, Bool, true, false, not, ◌||◌, ◌==◌, List, length, Option, Some, None, ◌⊎◌, refl, sym, ◌∙◌, inl, inr, ⊎_elim, arith}
+use Rattle.std.proofs.lemmas.Bool.{cases_Bool, cases_order, or_cases, or_left, or_right, or_parts, and_parts, and_from, both_ways, eqb-true, false≢true, not-true, not-false}
 use Rattle.smol_plan.specs.declared.pair.Pair.{Pair}
 use Rattle.smol_plan.specs.declared.pair.Side.{Side}
 use Rattle.smol_plan.specs.declared.pair.Side.TheVariants.{Low, High}
@@ -15,7 +15,7 @@ use Rattle.smol_plan.specs.Law.{FollowsSerial, OfWorkers, IsFinished, AllDecided
 use Rattle.smol_plan.proofs.BelowLemmas.{any_below-true, any_below-false}
 use Rattle.smol_plan.proofs.LinkLemmas.{SourceIs, no_source, a_source, source_cases, link_inside}
 use Rattle.smol_plan.proofs.MatchingLemmas.{fires_at}
-use Rattle.smol_plan.proofs.GoodLemmas.{AllTold, AllTold-from_left, left_of-zero, on_a_side, decided_value, decided_told, EarlierDecided-from_told, owed_source}
+use Rattle.smol_plan.proofs.GoodLemmas.{AllTold, AllTold-from_left, left_of-zero, on_a_side, decided_value, EarlierDecided-from_told, owed_source}
 
 module _ (pairs : List Pair) (state : State) (g : Good pairs state) where
   fired_decision : (j : ℕ) → is_fired state j ≡ true → state.decision j ≡ Some true
@@ -65,9 +65,9 @@ module _ (pairs : List Pair) (state : State) (g : Good pairs state) where
       fired : (i : ℕ) → i < j → shares_molecule (pair_at pairs i) (pair_at pairs j) ≡ true → fires pairs i ≡ true → j < length pairs → AllTold pairs state j → is_fired state i ≡ true
       fired i l s f inside t =
           let decided : is_decided state i ≡ true = ⊎_elim
-            (EarlierDecided-from_told pairs state g j inside t Low i l)
-            (EarlierDecided-from_told pairs state g j inside t High i l)
-            (or_cases _ _ s) in
+          (EarlierDecided-from_told pairs state g j inside t Low i l)
+          (EarlierDecided-from_told pairs state g j inside t High i l)
+          (or_cases _ _ s) in
           rw (decided_value pairs state g i decided) f
 
   -- a good state follows serial matching
@@ -85,11 +85,14 @@ module _ (pairs : List Pair) (state : State) (g : Good pairs state) (finished : 
           (λ (h : IsSettled state j side). h.told)
           (λ (h : IsOwed state j side). absurd (both_ways _ (finished.none_owed h.worker j side) h.owes))
           (g.linked j side record { source = i; is = s; decided = before i last.earlier })
+
       all_told : left_of pairs state j ≡ 0
       all_told = left_of-zero pairs state j (λ side link. told side link (source_cases pairs j side l))
+
       wrong : IsHeld state j ⊎ IsUntouched pairs state j → ⊥
       wrong (inl h) = both_ways _ (finished.none_held h.0 j) h.1
       wrong (inr h) = both_ways _ h.untaken (finished.taken (slice_of j) (omega arith))
+
       go : (o : Option Bool) → state.decision j ≡ o → is_decided state j ≡ true
       go None e = absurd (wrong (g.waiting j l e all_told))
       go (Some fired) e = rw e refl
@@ -120,6 +123,7 @@ module _ (pairs : List Pair) (workers : ℕ) (state : State) (some : 0 < workers
           let w = any_below-true _ _ e in
           let j = any_below-true _ _ w.2 in
           inl (Decide w.0 j.0, record { in_range = (w.1, j.1); allowed = j.2 })
+
       none_held : (w j : ℕ) → any_below (λ w. any_below (state.holds w) (length pairs)) workers ≡ false → (state.holds w j ≡ true) ⊎ (state.holds w j ≡ false) → state.holds w j ≡ false
       none_held w j e (inl h) =
           any_below-false _ _ (any_below-false _ _ e w (of.holders w j h)) j (g.held w j h).in_list
@@ -137,9 +141,11 @@ module _ (pairs : List Pair) (workers : ℕ) (state : State) (some : 0 < workers
           (λ (h : state.owes w.0 j.0 Low ≡ true). inl (Tell w.0 j.0 Low, record { in_range = (w.1, j.1); allowed = h }))
           (λ (h : state.owes w.0 j.0 High ≡ true). inl (Tell w.0 j.0 High, record { in_range = (w.1, j.1); allowed = h }))
           (or_cases _ _ j.2)
+
       on_side : (w j : ℕ) (side : Side) → (state.owes w j Low || state.owes w j High) ≡ false → state.owes w j side ≡ false
       on_side w j Low e = (or_parts _ _ e).0
       on_side w j High e = (or_parts _ _ e).1
+
       none_owed : (w j : ℕ) (side : Side) → any_below (λ w. any_below (λ j. state.owes w j Low || state.owes w j High) (length pairs)) workers ≡ false → (state.owes w j side ≡ true) ⊎ (state.owes w j side ≡ false) → state.owes w j side ≡ false
       none_owed w j side e (inl h) =
           let src = owed_source pairs state g w j side h in

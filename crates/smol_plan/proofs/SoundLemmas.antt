@@ -1,17 +1,17 @@
 -- Each step on the standings is the event's effect on the state.
-use Rattle.std.proofs.Common.{◌≡◌, ℕ, zero, suc, ◌+◌, ◌<◌, ◌≤◌, Bool, true, false, not, ◌&&◌, ◌||◌, ◌==◌, nat_lt, List, length, get_or, set, get_or-set_same, get_or-set_other, Option, Some, None, ◌⊎◌, refl, sym, ◌∙◌, ap, inl, inr, ⊎_elim, arith, if◌then◌else◌}
+use Rattle.std.proofs.Common.{◌≡◌, ℕ, ◌<◌, ◌≤◌, Bool, true, false, not, ◌&&◌, ◌||◌, ◌==◌, List, length, get_or, set, get_or-set_same, get_or-set_other, Option, Some, None, ◌⊎◌, refl, sym, ◌∙◌, ap, inl, inr, ⊎_elim, arith, if◌then◌else◌}
 use Rattle.std.specs.Option.{is_some}
 use Rattle.std.proofs.lemmas.List.{get_or_past}
-use Rattle.std.proofs.lemmas.Bool.{cases_Bool, cases_eq, cases_lt, lt-ltb, le-ltb, and_from, and_parts, and_right, and_left, or_cases, or_right, eq-eqb, eqb-true, ne_eqb, false_from_ne_true, false≢true, both_ways, not_from_true}
+use Rattle.std.proofs.lemmas.Bool.{cases_eq, cases_lt, lt-ltb, le-ltb, and_parts, or_right, eq-eqb, eqb-true, ne_eqb, false_from_ne_true, false≢true, both_ways}
 use Rattle.smol_plan.specs.declared.pair.Pair.{Pair}
 use Rattle.smol_plan.specs.declared.pair.Side.{Side}
 use Rattle.smol_plan.specs.declared.pair.Side.TheVariants.{Low, High}
 use Rattle.smol_plan.specs.declared.standing.Decision.{Decision}
 use Rattle.smol_plan.specs.declared.standing.Standing.{Standing}
-use Rattle.smol_plan.specs.Pair.{is_side, pair_at, molecule_at}
+use Rattle.smol_plan.specs.Pair.{is_side, molecule_at}
 use Rattle.smol_plan.specs.Matching.{fires}
-use Rattle.smol_plan.specs.Links.{has_at, source_of, is_link, is_number, comes_from}
-use Rattle.smol_plan.specs.Machine.{State, first_state, slice_of, has_no_link, left_of, is_decided, is_beaten, after_take, after_decide, with_told, after_tell}
+use Rattle.smol_plan.specs.Links.{is_number, comes_from}
+use Rattle.smol_plan.specs.Machine.{State, slice_of, has_no_link, left_of, is_decided, is_beaten, after_take, after_decide, with_told, after_tell}
 use Rattle.smol_plan.specs.Good.{Good, HasDecidedSource}
 use Rattle.smol_plan.specs.Standing.{fresh, told_of, ower_of, set_told, set_ower, fired_of}
 use Rattle.smol_plan.specs.Board.{standing_at, state_from, after_slice, comes_by, after_owing, untold_count, after_telling, TellsTaken, SourceTells, SourcesTell}
@@ -95,6 +95,7 @@ module _ (pairs : List Pair) (slices : List Bool) (standings next : List Standin
       nothing : (x : Bool) → false ≡ ((x && false) || false)
       nothing true = refl
       nothing false = refl
+
       idle : j < length pairs → (slice_of j == slice) ≡ true → has_no_link pairs j ≡ true → is_number w (standing_at standings j).holder ≡ false
       idle l e n =
           (g.untouched j l record { no_link = n; untaken = rw (eqb-true (slice_of j) slice e) untaken }).nobody w
@@ -238,6 +239,7 @@ module _ (pairs : List Pair) (slices : List Bool) (standings next : List Standin
       same : (t : Side) → told_of (record (standing_at standings pair) { decision = Some d; holder = None }) t ≡ told_of (standing_at standings pair) t
       same Low = refl
       same High = refl
+
       inside : told_of (standing_at (set standings pair (record (standing_at standings pair) { decision = Some d; holder = None })) j) side ≡ told_of (standing_at standings j) side
       inside = ⊎_elim
           (λ (e : j ≡ pair). ap (λ s. told_of s side) (decide_this j e) ∙ same side ∙ ap (λ k. told_of (standing_at standings k) side) (sym e))
@@ -253,10 +255,12 @@ module _ (pairs : List Pair) (slices : List Bool) (standings next : List Standin
       other : (x y : Bool) → y ≡ (not (x && false) && y)
       other true y = refl
       other false y = refl
+
       nobody : (x : Bool) → (w == worker) ≡ x → false ≡ (not ((w == worker) && true) && is_number w (standing_at standings pair).holder)
       nobody true e = rw e refl
       nobody false e =
           rw (e, false_from_ne_true (is_number w (standing_at standings pair).holder) (λ h. both_ways _ e (eq-eqb w worker ((g.held worker pair holds).alone w h)))) refl
+
       inside : is_number w (standing_at (set standings pair (record (standing_at standings pair) { decision = Some d; holder = None })) j).holder ≡ (after_decide pairs (state_from slices standings) worker pair).holds w j
       inside = ⊎_elim
           (λ (e : j ≡ pair). ap (λ s. is_number w s.holder) (decide_this j e) ∙ rw (e, eq-eqb pair pair refl) (nobody (w == worker) refl))
@@ -272,21 +276,27 @@ module _ (pairs : List Pair) (slices : List Bool) (standings next : List Standin
       other : (x y : Bool) → y ≡ ((x && false) || y)
       other true y = refl
       other false y = refl
+
       beyond : length pairs ≤ j → comes_from pairs pair j side ≡ true → ⊥
       beyond l e = omega (arith, link_inside pairs j side pair (is_number_from pair _ e))
+
       undecided : is_decided (state_from slices standings) pair ≡ false
       undecided = rw (g.held worker pair holds).undecided refl
+
       quiet : comes_from pairs pair j side ≡ true → is_number w (ower_of (standing_at standings j) side) ≡ false
       quiet e =
           (g.quiet j side (λ h. let both : Some h.source ≡ Some pair = sym h.is ∙ is_number_from pair _ e in let same : h.source ≡ pair = cc in both_ways _ undecided (rw same at h.decided))).nobody w
+
       same : (t : Side) → ower_of (record (standing_at standings pair) { decision = Some d; holder = None }) t ≡ ower_of (standing_at standings pair) t
       same Low = refl
       same High = refl
+
       inside : ower_of (standing_at (set standings pair (record (standing_at standings pair) { decision = Some d; holder = None })) j) side ≡ ower_of (standing_at standings j) side
       inside = ⊎_elim
           (λ (e : j ≡ pair). ap (λ s. ower_of s side) (decide_this j e) ∙ same side ∙ ap (λ k. ower_of (standing_at standings k) side) (sym e))
           (λ (n : j ≡ pair → ⊥). ap (λ s. ower_of s side) (decide_other j n))
           (cases_eq j pair)
+
       chosen : (if comes_by pairs pair Low j side || comes_by pairs pair High j side then Some worker else ower_of (standing_at (set standings pair (record (standing_at standings pair) { decision = Some d; holder = None })) j) side) ≡ (if comes_from pairs pair j side then Some worker else ower_of (standing_at standings j) side)
       chosen = rw (comes_by_either pairs pair j side, inside) refl
 
@@ -381,6 +391,7 @@ module _ (pairs : List Pair) (slices : List Bool) (standings : List Standing) (w
           pad : (x y : Bool) → y ≡ ((x && false) || y)
           pad true y = refl
           pad false y = refl
+
       here : is_number w (after_telling pairs pair side worker (standing_at standings pair)).holder ≡ (after_tell pairs (state_from slices standings) worker pair side).holds w pair
       here =
           ap (is_number w) (with_holder-holder _ (set_ower (set_told (standing_at standings pair) side) side None) (Some worker) ∙ ap (λ o. if untold_count pairs pair (set_ower (set_told (standing_at standings pair) side) side None) == 0 then Some worker else o) (holder-telling (standing_at standings pair) side)) ∙ is_number-choice (untold_count pairs pair (set_ower (set_told (standing_at standings pair) side) side None) == 0) w worker (standing_at standings pair).holder (λ _. nobody_holds w) ∙ rw (untold_same, eq-eqb pair pair refl) refl
@@ -395,10 +406,12 @@ module _ (pairs : List Pair) (slices : List Bool) (standings : List Standing) (w
           pad : (x y : Bool) → y ≡ (not (x && false) && y)
           pad true y = refl
           pad false y = refl
+
       only : (x : Bool) → (w == worker) ≡ x → false ≡ (not ((w == worker) && true) && is_number w (ower_of (standing_at standings pair) side))
       only true e = rw e refl
       only false e =
           rw (e, false_from_ne_true (is_number w (ower_of (standing_at standings pair) side)) (λ h. both_ways _ e (eq-eqb w worker (only_ower pairs (state_from slices standings) worker pair side owes g w h)))) refl
+
       at_side : (b : Bool) → is_side t side ≡ b → is_number w (if is_side t side then None else ower_of (standing_at standings pair) t) ≡ (not ((w == worker) && (true && is_side t side)) && is_number w (ower_of (standing_at standings pair) t))
       at_side true e = rw (is_side-true t side e, is_side-refl side) (only (w == worker) refl)
       at_side false e = rw e (pad (w == worker) _)
@@ -406,6 +419,7 @@ module _ (pairs : List Pair) (slices : List Bool) (standings : List Standing) (w
           pad : (x y : Bool) → y ≡ (not (x && false) && y)
           pad true y = refl
           pad false y = refl
+
       here : is_number w (ower_of (after_telling pairs pair side worker (standing_at standings pair)) t) ≡ (after_tell pairs (state_from slices standings) worker pair side).owes w pair t
       here =
           ap (is_number w) (with_holder-ower _ (set_ower (set_told (standing_at standings pair) side) side None) (Some worker) t ∙ ower_of-telling (standing_at standings pair) t side) ∙ rw (eq-eqb pair pair refl) (at_side (is_side t side) refl)
@@ -427,6 +441,7 @@ SourcesTell-held pairs slices standings w pair g h tells side i e =
     found : (o : Option Decision) → (standing_at standings i).decision ≡ o → is_some (fired_of o) ≡ true → SourceTells pairs standings i
     found None is d = absurd (false≢true d)
     found (Some x) is d = record { decision = x; is = is; tells = tells i x is }
+
     at_source : HasDecidedSource pairs (state_from slices standings) pair side → SourceTells pairs standings i
     at_source src =
         let both : Some src.source ≡ Some i = sym src.is ∙ e in

@@ -1,8 +1,7 @@
 -- How many events there can be: each takes one from what is left to do.
-use Rattle.std.proofs.Common.{◌≡◌, ℕ, zero, suc, ◌+◌, ◌*◌, ◌<◌, ◌≤◌, Bool, true, false, not, ◌||◌, ◌&&◌, ◌==◌, List, [], ◌∷◌, length, Some, refl, sym, ◌∙◌, ap, inl, inr, ⊎_elim, arith, if◌then◌else◌}
-use Rattle.std.proofs.lemmas.Bool.{cases_Bool, cases_order, or_left, or_parts, and_from, both_ways, eq-eqb, false≢true, not-true, not_from_true, not_from_false}
+use Rattle.std.proofs.Common.{◌≡◌, ℕ, zero, suc, ◌+◌, ◌*◌, ◌<◌, ◌≤◌, Bool, true, false, ◌||◌, ◌&&◌, ◌==◌, List, [], ◌∷◌, length, Some, refl, ⊎_elim, arith, if◌then◌else◌}
+use Rattle.std.proofs.lemmas.Bool.{cases_Bool, cases_order, or_left, and_from, eq-eqb, false≢true}
 use Rattle.smol_plan.specs.declared.pair.Pair.{Pair}
-use Rattle.smol_plan.specs.declared.pair.Side.{Side}
 use Rattle.smol_plan.specs.declared.pair.Side.TheVariants.{Low, High}
 use Rattle.smol_plan.specs.declared.event.Event.{Event}
 use Rattle.smol_plan.specs.declared.event.Event.TheVariants.{Take, Decide, Tell}

@@ -1,6 +1,6 @@
 -- Each step on a sound board leaves a sound board, in the state that its event leaves.
-use Rattle.std.proofs.Common.{◌≡◌, ℕ, ◌<◌, ◌≤◌, ◌++◌, Bool, true, false, List, length, get_or, set, take, drop, replicate, length-set, Some, None, ◌⊎◌, refl, sym, ◌∙◌, ap, inl, inr, ⊎_elim, arith}
-use Rattle.std.proofs.lemmas.Bool.{cases_lt, false≢true}
+use Rattle.std.proofs.Common.{◌≡◌, ℕ, ◌<◌, ◌≤◌, ◌++◌, Bool, true, false, List, length, get_or, set, take, drop, replicate, length-set, Some, None, refl, sym, ◌∙◌, ap, ⊎_elim, arith}
+use Rattle.std.proofs.lemmas.Bool.{cases_lt}
 use Rattle.std.proofs.lemmas.List.{get_or_read, get_or_past, get_or-replicate, length-replicate}
 use Rattle.smol_plan.specs.declared.pair.Pair.{Pair}
 use Rattle.smol_plan.specs.declared.pair.Side.{Side}
@@ -48,6 +48,7 @@ IsStep-from_effect board slices standings event h enabled as_many_slices as_many
   where
     good : Good board.pairs (state_of (with_parts board slices standings))
     good = rw is (Good-effect board.pairs (state_of board) event enabled.allowed h.good)
+
     of_workers : OfWorkers board.workers (state_of (with_parts board slices standings))
     of_workers =
         rw is (OfWorkers-effect board.pairs board.workers (state_of board) event enabled h.of_workers)
@@ -81,27 +82,37 @@ IsStep-decide_written board worker pair len d old first low second high h enable
   where
     written : List Standing
     written = set board.standings pair (record old { decision = Some d; holder = None })
+
     written_len : length written ≡ length board.standings
     written_len =
         length-set board.standings pair (record old { decision = Some d; holder = None })
+
     inside : pair < length board.standings
     inside = omega (arith, enabled.in_range.1, h.one_each)
+
     same : written ≡ set board.standings pair (record (standing_at board.standings pair) { decision = Some d; holder = None })
     same =
         ap (λ (s : Standing). set board.standings pair (record s { decision = Some d; holder = None })) (get_or_read board.standings pair old inside at fresh)
+
     low_as_many : length low ≡ length written
     low_as_many = low_len ∙ ap length first_is
+
     whole_low : take len (low ++ drop (length low) written) ≡ low
     whole_low = written_back low written len low_as_many (omega (arith, is_len, written_len))
+
     second_low : second ≡ low
     second_low = second_is ∙ whole_low
+
     high_as_many : length high ≡ length (take len (low ++ drop (length low) written))
     high_as_many = high_len ∙ ap length second_is
+
     whole_high : take len (high ++ drop (length high) (take len (low ++ drop (length low) written))) ≡ high
     whole_high =
         written_back high (take len (low ++ drop (length low) written)) len high_as_many (omega (arith, is_len, written_len, low_as_many, ap length whole_low))
+
     as_many : length high ≡ length board.standings
     as_many = omega (arith, high_as_many, ap length whole_low, low_as_many, written_len)
+
     given : (j : ℕ) → j < length board.pairs → standing_at high j ≡ after_both board.pairs pair worker j (standing_at (set board.standings pair (record (standing_at board.standings pair) { decision = Some d; holder = None })) j)
     given j l =
         high_given j l ∙ ap (λ xs. after_owing board.pairs pair High worker j (standing_at xs j)) second_low ∙ ap (after_owing board.pairs pair High worker j) (low_given j l ∙ ap (λ xs. after_owing board.pairs pair Low worker j (standing_at xs j)) (first_is ∙ same))
@@ -116,13 +127,17 @@ first_is slices pairs =
         (λ (l : k < n). get_or-replicate n k x x l)
         (λ (l : n ≤ k). get_or_past (replicate n x) k x (omega (arith, length-replicate n x)))
         (cases_lt k n)
+
     nothing_taken : (k : ℕ) → get_or (replicate slices false) k false ≡ false
     nothing_taken k = anywhere slices k false
+
     nothing_stands : (k : ℕ) → standing_at (replicate pairs fresh) k ≡ fresh
     nothing_stands k = anywhere pairs k fresh
+
     untold : (side : Side) → told_of fresh side ≡ false
     untold Low = refl
     untold High = refl
+
     unowed : (w : ℕ) (side : Side) → is_number w (ower_of fresh side) ≡ false
     unowed w Low = refl
     unowed w High = refl

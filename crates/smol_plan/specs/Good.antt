@@ -1,9 +1,9 @@
 -- What holds of the machine after each event.
-use Rattle.std.specs.Prelude.{ℕ, ◌≡◌, ◌<◌, ◌⊎◌, Bool, true, false, List, length, Option, Some, None}
+use Rattle.std.specs.Prelude.{ℕ, ◌≡◌, ◌<◌, ◌⊎◌, Bool, true, false, List, length, Some, None}
 use Rattle.smol_plan.specs.declared.pair.Pair.{Pair}
 use Rattle.smol_plan.specs.declared.pair.Side.{Side}
 use Rattle.smol_plan.specs.Matching.{fires}
-use Rattle.smol_plan.specs.Links.{source_of, is_link}
+use Rattle.smol_plan.specs.Links.{source_of}
 use Rattle.smol_plan.specs.Machine.{State, slice_of, is_decided, has_no_link, left_of}
 
 -- the link is told, and nobody owes it

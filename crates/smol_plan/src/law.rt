@@ -16,8 +16,7 @@ pub fn each_order_follows_serial()
         AreEnabled pairs workers first_state events → Good pairs (effects pairs first_state events) }
     ensures serial { (pairs : List Pair) (workers : ℕ) (events : List Event) →
         AreEnabled pairs workers first_state events → FollowsSerial pairs (effects pairs first_state events) }
-{
-}
+{}
 
 /// A good state in which nothing is left to do has every pair decided, and in every other one some event is enabled.
 pub fn each_order_ends()
@@ -29,12 +28,10 @@ pub fn each_order_ends()
     ensures goes_on { (pairs : List Pair) (workers : ℕ) (state : State) →
         0 < workers → Good pairs state → OfWorkers workers state →
         IsFinished pairs state ⊎ SomeEnabled pairs workers state }
-{
-}
+{}
 
 /// No list of enabled events has more than the slices and three times the pairs.
 pub fn each_order_is_short()
     ensures { (pairs : List Pair) (workers : ℕ) (events : List Event) →
         AreEnabled pairs workers first_state events → length events ≤ slice_count pairs + 3 * length pairs }
-{
-}
+{}

@@ -138,7 +138,11 @@ impl Plan {
         requires has { has_at self.now molecule pair ≡ true }
         ensures { molecule_at self.now pair result ≡ molecule }
     {
-        if self.pairs[pair].a == molecule { Side::Low } else { Side::High }
+        if self.pairs[pair].a == molecule {
+            Side::Low
+        } else {
+            Side::High
+        }
     }
 }
 

@@ -9,8 +9,8 @@ loop-next-init c = LinkedUpTo-one _ _ c.requires.unlinked
 pub loop-next-preserved : goal.loop-next-preserved
 loop-next-preserved c =
     elim c.if-first-second.branch [
-      then-first-second w ↦ LinkedUpTo-same c.args.entries.now c.loop-next.links _ c.loop-next.next c.loop-next.auto.next c.loop-next-test.true (λ q l. omega (arith, c.requires.inside q l)) w.if-first-second.true (w.links-is ∙ w.join.ensures) c.loop-next.invariant
-    | else-first-second w ↦ LinkedUpTo-other c.args.entries.now c.loop-next.links _ c.loop-next.next c.loop-next.auto.next w.if-first-second.false w.links-is c.loop-next.invariant
+      | then-first-second w ↦ LinkedUpTo-same c.args.entries.now c.loop-next.links _ c.loop-next.next c.loop-next.auto.next c.loop-next-test.true (λ q l. omega (arith, c.requires.inside q l)) w.if-first-second.true (w.links-is ∙ w.join.ensures) c.loop-next.invariant
+      | else-first-second w ↦ LinkedUpTo-other c.args.entries.now c.loop-next.links _ c.loop-next.next c.loop-next.auto.next w.if-first-second.false w.links-is c.loop-next.invariant
     ]
 
 pub returns : goal.returns

@@ -1,8 +1,7 @@
-use Rattle.std.proofs.Common.{◌≡◌, ℕ, ◌<◌, ◌++◌, List, length, take, drop, Some, None, sym, ◌∙◌, ap, set, arith}
+use Rattle.std.proofs.Common.{◌∙◌, ap, arith}
 use Rattle.smol_plan.specs.declared.event.Event.TheVariants.{Decide}
-use Rattle.smol_plan.specs.declared.standing.Standing.{Standing}
 use Rattle.smol_plan.specs.Machine.{IsEnabled, after_decide}
-use Rattle.smol_plan.specs.Board.{Board, IsSound, state_of}
+use Rattle.smol_plan.specs.Board.{Board, state_of}
 use Rattle.smol_plan.specs.Kept.{board_of}
 use Rattle.smol_plan.proofs.SoundLemmas.{SourcesTell-held}
 use Rattle.smol_plan.proofs.StepOfBoard.{IsStep-decide_written}

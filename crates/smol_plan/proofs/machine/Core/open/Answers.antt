@@ -1,7 +1,7 @@
-use Rattle.std.proofs.Common.{◌≡◌, length, replicate, false, sym, ◌∙◌, ap}
+use Rattle.std.proofs.Common.{◌≡◌, length, replicate, false, ◌∙◌, ap}
 use Rattle.smol_plan.specs.Machine.{slice_count}
 use Rattle.smol_plan.specs.Standing.{fresh}
-use Rattle.smol_plan.specs.Board.{Board, IsSound, state_of}
+use Rattle.smol_plan.specs.Board.{IsSound, state_of}
 use Rattle.smol_plan.specs.Pair.{IsOrdered}
 use Rattle.smol_plan.proofs.StepOfBoard.{IsSound-first, first_is}
 use Rattle.smol_plan.proofs.machine.Core.open.Goals as goal

@@ -1,4 +1,4 @@
-use Rattle.std.proofs.Common.{◌≡◌, ℕ, ◌<◌, ◌++◌, true, length, take, drop, ◌∙◌, sym, ap, set, arith}
+use Rattle.std.proofs.Common.{◌≡◌, ℕ, ◌<◌, ◌++◌, true, length, take, drop, ◌∙◌, ap, set, arith}
 use Rattle.smol_plan.specs.declared.event.Event.TheVariants.{Take}
 use Rattle.smol_plan.specs.Machine.{IsEnabled, after_take}
 use Rattle.smol_plan.specs.Board.{Board, IsSound, state_of, standing_at, after_slice}

@@ -1,4 +1,4 @@
-use Rattle.std.proofs.Common.{◌≡◌, ◌<◌, length, ◌∙◌, sym, ap, set, arith}
+use Rattle.std.proofs.Common.{◌≡◌, ◌<◌, length, ◌∙◌, ap, set, arith}
 use Rattle.std.proofs.lemmas.List.{get_or_read}
 use Rattle.smol_plan.specs.declared.event.Event.TheVariants.{Tell}
 use Rattle.smol_plan.specs.Machine.{IsEnabled, after_tell}

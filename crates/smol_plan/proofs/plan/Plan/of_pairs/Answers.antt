@@ -1,4 +1,4 @@
-use Rattle.std.proofs.Common.{◌≡◌, length, ◌∙◌, sym, ap, arith, vec_len}
+use Rattle.std.proofs.Common.{◌≡◌, length, ◌∙◌, ap, arith}
 use Rattle.std.proofs.lemmas.List.Sorted.{length_permutation}
 use Rattle.smol_plan.proofs.EntryLemmas.{AreEntries, AreEntries-from_permutation}
 use Rattle.smol_plan.proofs.NeighborLemmas.{IsLinked-from_entries}
