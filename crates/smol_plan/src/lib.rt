@@ -12,6 +12,8 @@ mod matching;
 mod pair;
 mod plan;
 mod standing;
+#[cfg(test)]
+mod tests;
 
 pub use event::Event;
 pub use law::{each_order_ends, each_order_follows_serial, each_order_is_short};
