@@ -1,7 +1,7 @@
 //! Two molecules that may react, and the two places that they have in a pair.
 ghost use Rattle.std.specs.Prelude.{◌≡◌};
 
-/// Two molecules and the reaction that they may take part in.
+/// Two molecules, by their numbers, and the reaction that they may take part in. In a plan `a` is below `b`.
 #[derive(Clone, Copy, Debug, PartialEq, Eq)]
 pub struct Pair {
     pub a: u64,

@@ -61,6 +61,7 @@ impl Plan {
         self.pairs.len()
     }
 
+    /// Whether there are no pairs.
     pub fn is_empty(&self) -> bool
         ensures { IsTrue result ↔ (self.now ≡ []) }
     {
@@ -69,7 +70,8 @@ impl Plan {
 
     /// The pairs, in the order in which they come.
     pub fn pairs(&self) -> &[Pair]
-        ensures { result.now ≡ self.now }
+        ensures value { result.now ≡ self.now }
+        ensures ordered { IsOrdered self.now }
     {
         self.pairs.as_slice()
     }
