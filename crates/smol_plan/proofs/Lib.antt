@@ -1,0 +1,15 @@
+pub mod SideLemmas
+pub mod BelowLemmas
+pub mod LinkLemmas
+pub mod MatchingLemmas
+pub mod GoodLemmas
+pub mod GoodKept
+pub mod ProgressLemmas
+pub mod StepLemmas
+pub mod EntryLemmas
+pub mod LinkedLemmas
+pub mod NeighborLemmas
+pub mod PlanLemmas
+pub mod BoardLemmas
+pub mod SoundLemmas
+pub mod StepOfBoard

@@ -1,0 +1,10 @@
+pub mod Pair
+pub mod Matching
+pub mod Links
+pub mod Machine
+pub mod Good
+pub mod Law
+pub mod Linked
+pub mod Standing
+pub mod Board
+pub mod Kept

@@ -1,0 +1,47 @@
+-- How it stands with one pair: what is kept of it.
+use Rattle.std.specs.Prelude.{ℕ, Bool, true, false, not, ◌||◌, Option, Some, None}
+use Rattle.smol_plan.specs.declared.pair.Side.{Side}
+use Rattle.smol_plan.specs.declared.pair.Side.TheVariants.{Low, High}
+use Rattle.smol_plan.specs.declared.standing.Decision.{Decision}
+use Rattle.smol_plan.specs.declared.standing.Standing.{Standing}
+
+-- of a pair of which nothing has happened
+abbrev pub fresh : Standing
+fresh =
+    record { decision = None; holder = None; told_low = false; told_high = false; ower_low = None; ower_high = None }
+
+-- whether the molecule on a side is taken after the pair
+abbrev pub is_taken_on : Decision → Side → Bool
+is_taken_on d Low = d.low_taken
+is_taken_on d High = d.high_taken
+
+-- whether the link on a side is told
+abbrev pub told_of : Standing → Side → Bool
+told_of s Low = s.told_low
+told_of s High = s.told_high
+
+-- who owes the link on a side
+abbrev pub ower_of : Standing → Side → Option ℕ
+ower_of s Low = s.ower_low
+ower_of s High = s.ower_high
+
+-- with the link on a side told
+abbrev pub set_told : Standing → Side → Standing
+set_told s Low = record s { told_low = true }
+set_told s High = record s { told_high = true }
+
+-- with the link on a side owed by this one
+abbrev pub set_ower : Standing → Side → Option ℕ → Standing
+set_ower s Low o = record s { ower_low = o }
+set_ower s High o = record s { ower_high = o }
+
+-- whether the pair was fired, where it is decided
+abbrev pub fired_of : Option Decision → Option Bool
+fired_of None = None
+fired_of (Some d) = Some d.fired
+
+-- a pair fires where neither of its molecules is taken before it, and then both are taken
+abbrev pub decision_after : Bool → Bool → Decision
+decision_after low high =
+    let fired = not (low || high) in
+    record { fired = fired; low_taken = low || fired; high_taken = high || fired }
