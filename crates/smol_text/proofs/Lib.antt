@@ -1,3 +1,5 @@
 pub mod Pieces
 pub mod Places
 pub mod Steps
+pub mod Onward
+pub mod WordBytes

@@ -1,13 +1,14 @@
 -- The first piece of a list, and the pieces after it.
-use Rattle.std.proofs.Common.{◌≡◌, ℕ, ◌+◌, ◌<◌, ◌≤◌, Bool, false, not, ltb, List, [], ◌∷◌, ◌++◌, length, take, drop, unwrap_or, Some, None, sym, refl, ap, ◌∙◌, inl, inr, arith}
-use Rattle.std.specs.List.{slice_split, position, position_or_len}
+use Rattle.std.proofs.Common.{◌≡◌, ℕ, ◌+◌, ◌<◌, ◌≤◌, Bool, true, false, not, ltb, List, [], ◌∷◌, ◌++◌, length, take, drop, unwrap_or, Some, None, sym, refl, ap, ◌∙◌, inl, inr, arith}
+use Rattle.std.specs.List.{slice_split, position, position_or_len, before_first, filter, slice_get}
 use Rattle.std.proofs.lemmas.Bool.{cond_both, ltb-false, cases_lt}
 use Rattle.std.proofs.lemmas.List.{length-take-le, take_all}
 use Rattle.std.proofs.lemmas.List.Sums.{prefix_len-le-length, fails_before_first}
 use Rattle.std.proofs.lemmas.List.Splits.{slice_split_first, slice_split_none, length-slice_split}
 use Rattle.std.proofs.lemmas.List.Elements.{All-from_get_or}
 use Rattle.std.proofs.Math.ListN.{drop_of_length-le}
-use Rattle.smol_text.specs.Lines.{is_line_feed, without_empty_last, raw_lines}
+use Rattle.std.proofs.Math.Numerals.{one-add}
+use Rattle.smol_text.specs.Lines.{is_line_feed, without_empty_last, raw_lines, has_bytes}
 use Rattle.smol_text.specs.Spans.{place_of_piece, places_of_pieces}
 
 -- the first place that passes, or the length where none does, is that of `position`
@@ -52,6 +53,24 @@ without_empty_last-cons (b ∷ bs) pieces some = refl
 without_empty_last-one : (piece : List ℕ) → 0 < length piece → without_empty_last (piece ∷ []) ≡ piece ∷ []
 without_empty_last-one [] some = absurd (omega arith)
 without_empty_last-one (b ∷ bs) some = refl
+
+slice_split-first_of : (p : ℕ → Bool) (x : ℕ) (xs : List ℕ) (passes : Bool) → p x ≡ passes → ((rest : List (List ℕ)) × (slice_split p xs ≡ before_first p xs ∷ rest)) → (rest : List (List ℕ)) × (slice_split p (x ∷ xs) ≡ before_first p (x ∷ xs) ∷ rest)
+slice_split-first_of p x xs true is h = (slice_split p xs, rw is refl)
+slice_split-first_of p x xs false is h = (h.0, rw (is, h.1, one-add) refl)
+
+-- the first piece is what stands before the first element that passes
+slice_split-first : (p : ℕ → Bool) (xs : List ℕ) → (rest : List (List ℕ)) × (slice_split p xs ≡ before_first p xs ∷ rest)
+slice_split-first p [] = ([], refl)
+slice_split-first p (x ∷ xs) = slice_split-first_of p x xs (p x) refl (slice_split-first p xs)
+
+first_piece_of : (p : ℕ → Bool) (x : ℕ) (xs : List ℕ) (passes : Bool) → p x ≡ passes → unwrap_or (slice_get (filter has_bytes (slice_split p xs)) 0) [] ≡ before_first p (drop (position_or_len (λ b. not (p b)) xs) xs) → unwrap_or (slice_get (filter has_bytes (slice_split p (x ∷ xs))) 0) [] ≡ before_first p (drop (position_or_len (λ b. not (p b)) (x ∷ xs)) (x ∷ xs))
+first_piece_of p x xs true is h = simp (is, one-add) h
+first_piece_of p x xs false is h = let first = slice_split-first p xs in simp (is, first.1, one-add)
+
+-- the first piece that isn't empty stands behind the elements that pass
+pub first_piece : (p : ℕ → Bool) (xs : List ℕ) → unwrap_or (slice_get (filter has_bytes (slice_split p xs)) 0) [] ≡ before_first p (drop (position_or_len (λ b. not (p b)) xs) xs)
+first_piece p [] = refl
+first_piece p (x ∷ xs) = first_piece_of p x xs (p x) refl (first_piece p xs)
 
 -- the first line, and the lines after it
 pub raw_lines-step : (xs : List ℕ) → 0 < length xs → raw_lines xs ≡ take (position_or_len is_line_feed xs) xs ∷ raw_lines (drop (position_or_len is_line_feed xs + 1) xs)

@@ -1,13 +1,13 @@
 -- One more line of a text, and one more piece of a line.
-use Rattle.std.proofs.Common.{◌≡◌, ℕ, ◌+◌, ◌-◌, ◌<◌, ◌≤◌, Bool, List, [], ◌∷◌, ◌++◌, length, take, drop, unwrap_or, Option, sym, refl, ap, ◌∙◌, arith, append_assoc}
-use Rattle.std.specs.List.{slice_split, position, position_or_len}
+use Rattle.std.proofs.Common.{◌≡◌, ℕ, ◌+◌, ◌-◌, ◌<◌, ◌≤◌, Bool, List, [], ◌∷◌, ◌++◌, length, take, drop, not, unwrap_or, Option, sym, refl, ap, ◌∙◌, arith, append_assoc}
+use Rattle.std.specs.List.{slice_split, slice_get, position, position_or_len, before_first}
 use Rattle.std.proofs.lemmas.List.{length-take-le, length-drop, drop-drop, take_all}
 use Rattle.std.proofs.lemmas.List.Sums.{prefix_len-le-length}
 use Rattle.smol_text.specs.declared.line.Span.{Span}
-use Rattle.smol_text.specs.declared.line.Line.{Line}
-use Rattle.smol_text.specs.Lines.{is_line_feed, separates, raw_lines}
-use Rattle.smol_text.specs.Spans.{place_of_piece, places_of_pieces, places, numbered, lines_of}
-use Rattle.smol_text.proofs.Pieces.{unwrap_or-position, places-step, raw_lines-step}
+use Rattle.smol_text.specs.Lines.{is_line_feed, separates, pieces_of, raw_lines, uncommented}
+use Rattle.smol_text.specs.Reading.{first_word}
+use Rattle.smol_text.specs.Spans.{place_of_piece, places_of_pieces}
+use Rattle.smol_text.proofs.Pieces.{unwrap_or-position, places-step, raw_lines-step, first_piece}
 
 -- the first place that passes in the rest of a list
 pub position_or_len-rest : (p : ℕ → Bool) (xs : List ℕ) (at n : ℕ) (found : Option ℕ) → found ≡ position p (take (length xs - at) (drop at xs)) → n ≡ unwrap_or found (length (take (length xs - at) (drop at xs))) → n ≡ position_or_len p (drop at xs)
@@ -15,25 +15,20 @@ position_or_len-rest p xs at n found is_found is_n =
     let whole : take (length xs - at) (drop at xs) ≡ drop at xs = take_all (length xs - at) (drop at xs) (omega (arith, length-drop at xs)) in
     is_n ∙ ap (λ o. unwrap_or o (length (take (length xs - at) (drop at xs)))) is_found ∙ ap (λ t. unwrap_or (position p t) (length t)) whole ∙ unwrap_or-position p (drop at xs)
 
--- one more line is numbered
-pub numbered-step : (bytes : List ℕ) (number at n : ℕ) (before after : List Line) (words : List Span) → at < length bytes → n ≡ position_or_len is_line_feed (drop at bytes) → before ++ numbered number at (raw_lines (drop at bytes)) ≡ lines_of bytes → words ≡ places at (take n (drop at bytes)) → after ≡ before ++ record { number = number; words = words } ∷ [] → after ++ numbered (number + 1) (at + n + 1) (raw_lines (drop (at + n + 1) bytes)) ≡ lines_of bytes
-numbered-step bytes number at n before after words within is_n so_far is_words is_after =
+-- one more line of a text
+pub raw_lines-next : (bytes : List ℕ) (at n : ℕ) → at < length bytes → n ≡ position_or_len is_line_feed (drop at bytes) → raw_lines (drop at bytes) ≡ take n (drop at bytes) ∷ raw_lines (drop (at + n + 1) bytes)
+raw_lines-next bytes at n within is_n =
     let xs = drop at bytes in
-    let m = position_or_len is_line_feed xs in
-    let most : m ≤ length xs = prefix_len-le-length _ xs in
-    let size : length (take m xs) ≡ m = length-take-le m xs most in
-    let further = numbered (number + 1) (at + n + 1) (raw_lines (drop (at + n + 1) bytes)) in
-    let same : drop (m + 1) xs ≡ drop (at + n + 1) bytes = ap (λ k. drop (k + 1) xs) (sym is_n) ∙ drop-drop (n + 1) at bytes ∙ ap (λ k. drop k bytes) (omega arith) in
-    let places_same : at + length (take m xs) + 1 ≡ at + n + 1 = omega arith in
-    let step : numbered number at (raw_lines xs) ≡ record { number = number; words = words } ∷ further =
-    ap (numbered number at) (raw_lines-step xs (omega (arith, length-drop at bytes)))
-    ∙ ap (λ w. record { number = number; words = w } ∷ numbered (number + 1) (at + length (take m xs) + 1) (raw_lines (drop (m + 1) xs))) (ap (λ k. places at (take k xs)) (sym is_n) ∙ sym is_words)
-    ∙ ap (λ k. record { number = number; words = words } ∷ numbered (number + 1) k (raw_lines (drop (m + 1) xs))) places_same
-    ∙ ap (λ t. record { number = number; words = words } ∷ numbered (number + 1) (at + n + 1) (raw_lines t)) same in
-    ap (λ t. t ++ further) is_after
-    ∙ append_assoc before (record { number = number; words = words } ∷ []) further
-    ∙ ap (λ t. before ++ t) (sym step)
-    ∙ so_far
+    let same : drop (n + 1) xs ≡ drop (at + n + 1) bytes = drop-drop (n + 1) at bytes ∙ ap (λ k. drop k bytes) (omega arith) in
+    raw_lines-step xs (omega (arith, length-drop at bytes))
+    ∙ ap (λ k. take k xs ∷ raw_lines (drop (k + 1) xs)) (sym is_n)
+    ∙ ap (λ t. take n xs ∷ raw_lines t) same
+
+-- the same, where the line is cut from its first byte to before its last
+pub raw_lines-cut : (bytes : List ℕ) (at n : ℕ) → at < length bytes → n ≡ position_or_len is_line_feed (drop at bytes) → raw_lines (drop at bytes) ≡ take (at + n - at) (drop at bytes) ∷ raw_lines (drop (at + n + 1) bytes)
+raw_lines-cut bytes at n within is_n =
+    let size : n ≡ at + n - at = omega arith in
+    raw_lines-next bytes at n within is_n ∙ ap (λ k. take k (drop at bytes) ∷ raw_lines (drop (at + n + 1) bytes)) size
 
 -- a piece that has bytes is placed
 pub place_of_piece-some : (at : ℕ) (piece : List ℕ) → 0 < length piece → place_of_piece at piece ≡ record { start = at; end = at + length piece } ∷ []
@@ -41,7 +36,7 @@ place_of_piece-some at [] some = absurd (omega arith)
 place_of_piece-some at (b ∷ bs) some = refl
 
 -- one more piece of a line is placed
-pub places_of_pieces-step : (line : List ℕ) (at start n : ℕ) (before after : List Span) → n ≡ position_or_len separates (drop start line) → before ++ places_of_pieces (at + start) (slice_split separates (drop start line)) ≡ places at line → after ≡ before ++ place_of_piece (at + start) (take n (drop start line)) → after ++ places_of_pieces (at + (start + n + 1)) (slice_split separates (drop (start + n + 1) line)) ≡ places at line
+pub places_of_pieces-step : (line : List ℕ) (at start n : ℕ) (before after : List Span) → n ≡ position_or_len separates (drop start line) → before ++ places_of_pieces (at + start) (slice_split separates (drop start line)) ≡ places_of_pieces at (slice_split separates line) → after ≡ before ++ place_of_piece (at + start) (take n (drop start line)) → after ++ places_of_pieces (at + (start + n + 1)) (slice_split separates (drop (start + n + 1) line)) ≡ places_of_pieces at (slice_split separates line)
 places_of_pieces-step line at start n before after is_n so_far is_after =
     let xs = drop start line in
     let m = position_or_len separates xs in
@@ -66,3 +61,13 @@ place_of_piece-between line at start n some is_n =
     let end : at + start + length (take n (drop start line)) ≡ at + (start + n) = omega arith in
     place_of_piece-some (at + start) (take n (drop start line)) (omega arith)
     ∙ ap (λ k. record { start = at + start; end = k } ∷ []) end
+
+-- the first word of a line, from where its first byte stands that separates no words to before the next separator
+pub first_word-at : (line part : List ℕ) (start size : ℕ) → part ≡ uncommented line → start ≡ position_or_len (λ b. not (separates b)) part → size ≡ position_or_len separates (drop start part) → take size (take (length part - start) (drop start part)) ≡ first_word line
+first_word-at line part start size is_part is_start is_size =
+    let whole : take (length part - start) (drop start part) ≡ drop start part = take_all (length part - start) (drop start part) (omega (arith, length-drop start part)) in
+    ap (take size) whole
+    ∙ ap (λ k. take k (drop start part)) is_size
+    ∙ ap (λ k. before_first separates (drop k part)) is_start
+    ∙ sym (first_piece separates part)
+    ∙ ap (λ xs. unwrap_or (slice_get (pieces_of xs) 0) []) is_part

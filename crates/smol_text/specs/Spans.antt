@@ -1,22 +1,23 @@
 -- Where the words of a text stand.
-use Rattle.std.specs.Prelude.{ℕ, ◌+◌, ◌<◌, ◌≤◌, All, List, [], ◌∷◌, ◌++◌, length, map}
+use Rattle.std.specs.Prelude.{ℕ, ◌+◌, ◌<◌, ◌≤◌, Bool, true, false, All, List, [], ◌∷◌, ◌++◌, length, map, sum_by, slice_index_or}
 use Rattle.std.specs.List.{slice_range, slice_split}
 use Rattle.smol_text.specs.declared.line.Span.{Span}
 use Rattle.smol_text.specs.declared.line.Line.{Line}
-use Rattle.smol_text.specs.Lines.{separates, raw_lines}
+use Rattle.smol_text.specs.Lines.{separates, raw_lines, uncommented}
+use Rattle.smol_text.specs.Reading.{Stated, is_read}
 
 -- the bytes of a text from a span's start to before its end
 abbrev pub slice_of : List ℕ → Span → List ℕ
 slice_of text span = slice_range text span.start span.end
 
--- a place in a text: it holds at least one byte, and ends where the text does or before
-pub record IsSpanOf (text : List ℕ) (span : Span) : Type 0 where
+-- a span holds at least one byte, and ends where the text does or before
+pub record IsWithin (text : List ℕ) (span : Span) : Type 0 where
   pub not_empty : span.start < span.end
   pub ends : span.end ≤ length text
 
--- each span is a place in the text
-abbrev pub AreSpansOf : List ℕ → List Span → Type 0
-AreSpansOf text spans = All (IsSpanOf text) spans
+-- each span is within the text
+abbrev pub AllWithin : List ℕ → List Span → Type 0
+AllWithin text spans = All (IsWithin text) spans
 
 -- where a piece stands whose first byte stands at `at`: nowhere, where the piece is empty
 abbrev pub place_of_piece : ℕ → List ℕ → List Span
@@ -30,30 +31,49 @@ places_of_pieces at (piece ∷ pieces) = place_of_piece at piece ++ places_of_pi
 
 -- where the words of a line stand, whose first byte stands at `at`
 abbrev pub places : ℕ → List ℕ → List Span
-places at line = places_of_pieces at (slice_split separates line)
+places at line = places_of_pieces at (slice_split separates (uncommented line))
 
--- lines with their numbers from `number` on, the first one at `at`, with one byte between each two
-abbrev pub numbered : ℕ → ℕ → List (List ℕ) → List Line
-numbered number at [] = []
-numbered number at (line ∷ lines) = record { number = number; words = places at line } ∷ numbered (number + 1) (at + length line + 1) lines
+-- where the line behind these lines begins: each of them is followed by one byte
+abbrev pub start_of : List (List ℕ) → ℕ
+start_of before = sum_by (λ line. length line + 1) before
 
--- every line of a text, also one without words, numbered from 1, with the places of its words in the text
-abbrev pub lines_of : List ℕ → List Line
-lines_of text = numbered 1 0 (raw_lines text)
+-- the line that makes a statement, where it is read and has a word
+abbrev pub placed_if : Bool → ℕ → List Span → List Line
+placed_if false number places = []
+placed_if true number [] = []
+placed_if true number (place ∷ places) = record { number = number; words = place ∷ places } ∷ []
 
--- a text and its lines
+-- the lines that make statements, reading on behind these lines
+abbrev pub lines_from : List (List ℕ) → List (List ℕ) → List Line
+lines_from before [] = []
+lines_from before (line ∷ lines) =
+    placed_if (is_read before line) (length before + 1) (places (start_of before) line) ++ lines_from (line ∷ before) lines
+
+-- the lines of a text that make statements, each with its number and the places of its words in the text
+unfoldable pub lines_of : List ℕ → List Line
+lines_of text = lines_from [] (raw_lines text)
+
+-- a text and its lines that make statements
 pub record LinedText : Type 0 where
   pub bytes : List ℕ
   pub lines : List Line
 
--- the words of each line, read off at their spans
-abbrev pub words_at : List ℕ → List Line → List (List (List ℕ))
-words_at bytes lines = map (λ line. map (slice_of bytes) line.words) lines
+-- a line's number, and its words read off a text at their places
+abbrev pub stated_at : List ℕ → Line → Stated
+stated_at bytes line = record { number = line.number; words = map (slice_of bytes) line.words }
 
--- the words of each line of a text, one list for a line
+-- the statements of a text's lines
+abbrev pub stated_lines : LinedText → List Stated
+stated_lines text = map (stated_at text.bytes) text.lines
+
+-- the words of each statement of a text
 abbrev pub words_of : LinedText → List (List (List ℕ))
-words_of text = words_at text.bytes text.lines
+words_of text = map (λ (line : Line). map (slice_of text.bytes) line.words) text.lines
+
+-- the words of the statement at an index, and none past the last statement
+abbrev pub words_at : LinedText → ℕ → List (List ℕ)
+words_at text index = slice_index_or (words_of text) index []
 
 -- each line's words stand within the text
-abbrev pub HoldsItsWords : LinedText → Type 0
-HoldsItsWords text = All (λ (line : Line). AreSpansOf text.bytes line.words) text.lines
+abbrev pub LinesWithin : LinedText → Type 0
+LinesWithin text = All (λ (line : Line). AllWithin text.bytes line.words) text.lines

@@ -1,5 +1,5 @@
 //! A line of a text, and where its words stand.
-ghost use Rattle.std.specs.Prelude.{◌≡◌};
+ghost use Rattle.std.specs.Prelude.{◌≡◌, ◌==◌, length};
 
 use std::marker::Model;
 
@@ -30,6 +30,18 @@ impl Words {
         ensures { result.now ≡ self.now }
     {
         self.spans.as_slice()
+    }
+
+    pub fn len(&self) -> usize
+        ensures { result ≡ length self.now }
+    {
+        self.spans.len()
+    }
+
+    pub fn is_empty(&self) -> bool
+        ensures { result ≡ (length self.now == 0) }
+    {
+        self.spans.is_empty()
     }
 }
 

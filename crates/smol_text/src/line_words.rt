@@ -1,7 +1,7 @@
 //! The words of one line, as bytes.
 ghost use Rattle.std.specs.Prelude.{◌≡◌, ◌==◌, ◌<◌, ◌≤◌, length, drop, map, slice_get, slice_index_or, []};
 ghost use Rattle.std.specs.Option.{option_copied};
-ghost use Rattle.smol_text.specs.Spans.{slice_of, AreSpansOf};
+ghost use Rattle.smol_text.specs.Spans.{slice_of, AllWithin};
 
 use crate::line::Span;
 use std::marker::Model;
@@ -15,18 +15,18 @@ pub struct LineWords<'a> {
 
 impl<'a> Model for LineWords<'a> {
     ghost use Rattle.std.specs.Prelude.{List, ℕ, map};
-    ghost use Rattle.smol_text.specs.Spans.{slice_of, AreSpansOf};
+    ghost use Rattle.smol_text.specs.Spans.{slice_of, AllWithin};
 
     ghost Value = { List (List ℕ) };
 
     ghost view = { λ words. map (slice_of words.bytes.now) words.spans.now };
 
-    ghost invariant = { λ words. AreSpansOf words.bytes.now words.spans.now };
+    ghost invariant = { λ words. AllWithin words.bytes.now words.spans.now };
 }
 
 impl<'a> LineWords<'a> {
     pub(crate) fn new(bytes: &'a [u8], spans: &'a [Span]) -> LineWords<'a>
-        requires { AreSpansOf bytes.now spans.now }
+        requires { AllWithin bytes.now spans.now }
         ensures { result ≡ map (slice_of bytes.now) spans.now }
     {
         LineWords { bytes, spans }

@@ -1,58 +1,122 @@
-//! A text is split into lines, and a line into words.
-ghost use Rattle.std.specs.Prelude.{◌≡◌, ◌+◌, ◌≤◌, length, IfOk};
-ghost use Rattle.std.specs.List.{position};
-ghost use Rattle.smol_text.specs.Lines.{is_line_feed, separates, text_words};
-ghost use Rattle.smol_text.specs.Spans.{places, lines_of, words_of};
+//! A text is split into the lines that make statements, and such a line into words.
+ghost use Rattle.std.specs.Prelude.{◌≡◌, ◌≢◌, ◌+◌, ◌++◌, ◌^◌, ◌≤◌, length, not, true, false, is_ok, IsTrue, OnOk, IfOk, IfErr};
+ghost use Rattle.std.specs.List.{list_all, position, slice_split};
+ghost use Rattle.smol_text.specs.Lines.{begins_comment, is_line_feed, separates, uncommented};
+ghost use Rattle.smol_text.specs.Reading.{first_word, is_allowed, statements_of};
+ghost use Rattle.smol_text.specs.Spans.{places, places_of_pieces, placed_if, lines_of, stated_lines};
 
 use crate::line::{Line, Span, Words};
+use crate::standing::Standing;
 use crate::text::Text;
 use crate::text_fault::TextFault;
 use std::alloc::Global;
 
-/// The most bytes that a text may have, 4 MiB.
-pub const MOST_BYTES: usize = 4_194_304;
+/// The most lines that a text may have, up to the one that ends it.
+const MOST_LINES: u32 = 65536;
 
-/// Splits a text into numbered lines, and each line into words. A line ends with a line
-/// feed or at the end of the text. Tabs, carriage returns and spaces separate words.
+/// Splits a text of at most 4 MiB into the lines that make statements, and each of them into words. A line
+/// ends with a line feed or at the end of the text. What stands from the first `#` of a line on is a comment.
+/// Tabs, carriage returns and spaces separate words. A line whose first word is `/*` opens a block comment,
+/// which the next line closes whose first word is `*/`. A line whose first word is `end_file` ends the text.
+/// The first fault met from the first line on is answered.
 pub fn split_lines(alloc: Global, bytes: &[u8]) -> Result<Text, TextFault>
-    requires { length bytes.now ≤ MOST_BYTES }
+    requires { length bytes.now ≤ 4194304 }
     ensures bytes { IfOk result (λ text. text.bytes ≡ bytes.now) }
-    ensures lines { IfOk result (λ text. text.lines ≡ lines_of bytes.now) }
-    ensures words { IfOk result (λ text. words_of text ≡ text_words bytes.now) }
+    ensures statements { IfOk result (λ text. statements_of bytes.now ≡ Ok (stated_lines text)) }
+    ensures places { IfOk result (λ text. text.lines ≡ lines_of bytes.now) }
+    ensures refused { IfErr result (λ fault. fault ≢ TextFault.OutOfMemory → statements_of bytes.now ≡ Err fault) }
 {
     let lines = find_lines(alloc, bytes)?;
     let bytes = Vec::from_slice(alloc, bytes)?;
     Ok(Text::new(bytes, lines))
 }
 
-/// Every line of a text, numbered from 1, with the places of its words.
+/// Every line of a text that makes a statement, with its number and the places of its words.
 fn find_lines(alloc: Global, bytes: &[u8]) -> Result<Vec<Line>, TextFault>
-    requires { length bytes.now ≤ MOST_BYTES }
-    ensures { IfOk result (λ lines. lines.items ≡ lines_of bytes.now) }
+    requires { length bytes.now ≤ 4194304 }
+    ensures lines { IfOk result (λ lines. lines.items ≡ lines_of bytes.now) }
+    ensures accepted { IfOk result (λ _. IsTrue (is_ok (statements_of bytes.now))) }
+    ensures refused { IfErr result (λ fault. fault ≢ TextFault.OutOfMemory → statements_of bytes.now ≡ Err fault) }
 {
     let mut lines = Vec::new(alloc);
+    let mut standing = Standing::Open;
+    let mut passed = 0;
     let mut at = 0;
-    let mut number = 1;
-    while at < bytes.len() {
+    while at < bytes.len() && !standing.is_ended() {
+        if passed == MOST_LINES {
+            return Err(TextFault::TooManyLines);
+        }
+        passed += 1;
         let rest = &bytes[at..];
         let end = at + first_line_feed(rest).unwrap_or(rest.len());
-        let words = find_words(alloc, &bytes[at..end], at as u32)?;
-        lines.push(Line { number, words })?;
-        number += 1;
+        let line = &bytes[at..end];
+        let next = standing.after(passed, first_word_of(line));
+        if standing.is_open() && next.is_open() {
+            keep_statement(alloc, &mut lines, passed, line, at)?;
+        }
+        standing = next;
         at = end + 1;
     }
-    Ok(lines)
+    match standing {
+        Standing::Commented { line } => Err(TextFault::OpenComment { line }),
+        Standing::Open | Standing::Ended => Ok(lines),
+    }
 }
 
-/// The places of a line's words, where its first byte stands at `at`.
-fn find_words(alloc: Global, line: &[u8], at: u32) -> Result<Words, TextFault>
-    requires { at + length line.now ≤ MOST_BYTES }
-    ensures { IfOk result (λ words. words ≡ places at line.now) }
+/// Puts the statement that a line makes behind the others, where the line has a word.
+fn keep_statement(
+    alloc: Global,
+    lines: &mut Vec<Line>,
+    number: u32,
+    line: &[u8],
+    at: usize,
+) -> Result<(), TextFault>
+    requires { at + length line.now ≤ 4194304 }
+    ensures kept { OnOk result (lines.new.items ≡ lines.old.items ++ placed_if true number (places at line.now)) }
+    ensures allowed { OnOk result (list_all is_allowed (uncommented line.now) ≡ true) }
+    ensures refused { IfErr result (λ fault. fault ≢ TextFault.OutOfMemory → fault ≡ TextFault.BadByte number) }
+    ensures not_allowed { IfErr result (λ fault. fault ≢ TextFault.OutOfMemory → list_all is_allowed (uncommented line.now) ≡ false) }
+{
+    let part = before_comment(line);
+    if !are_allowed(part) {
+        return Err(TextFault::BadByte { line: number });
+    }
+    let words = find_words(alloc, part, at as u32)?;
+    if !words.is_empty() {
+        lines.push(Line { number, words })?;
+    }
+    Ok(())
+}
+
+/// The part of a line before its comment.
+fn before_comment(line: &[u8]) -> &[u8]
+    ensures { result.now ≡ uncommented line.now }
+{
+    let end = first_hash(line).unwrap_or(line.len());
+    &line[..end]
+}
+
+/// The first word of a line, and no bytes where it has none.
+fn first_word_of(line: &[u8]) -> &[u8]
+    ensures { result.now ≡ first_word line.now }
+{
+    let part = before_comment(line);
+    let start = first_word_byte(part).unwrap_or(part.len());
+    let word = &part[start..];
+    let end = first_separator(word).unwrap_or(word.len());
+    &word[..end]
+}
+
+/// The places of the words of the part of a line before its comment, where its first byte stands at `at`.
+fn find_words(alloc: Global, part: &[u8], at: u32) -> Result<Words, TextFault>
+    requires { at + length part.now ≤ 4194304 }
+    ensures words { IfOk result (λ words. words ≡ places_of_pieces at (slice_split separates part.now)) }
+    ensures memory { IfErr result (λ fault. fault ≡ TextFault.OutOfMemory) }
 {
     let mut spans = Vec::new(alloc);
     let mut start = 0;
-    while start < line.len() {
-        let rest = &line[start..];
+    while start < part.len() {
+        let rest = &part[start..];
         let end = start + first_separator(rest).unwrap_or(rest.len());
         if start < end {
             spans.push(Span {
@@ -72,6 +136,13 @@ fn first_line_feed(bytes: &[u8]) -> Option<usize>
     bytes.iter().position(|b| *b == b'\n')
 }
 
+/// Where the first `#` stands.
+fn first_hash(bytes: &[u8]) -> Option<usize>
+    ensures { result ≡ position begins_comment bytes.now }
+{
+    bytes.iter().position(|b| *b == b'#')
+}
+
 /// Where the first separator stands.
 fn first_separator(bytes: &[u8]) -> Option<usize>
     ensures { result ≡ position separates bytes.now }
@@ -81,52 +152,67 @@ fn first_separator(bytes: &[u8]) -> Option<usize>
         .position(|b| *b == b'\t' || *b == b'\r' || *b == b' ')
 }
 
+/// Where the first byte stands that separates no words.
+fn first_word_byte(bytes: &[u8]) -> Option<usize>
+    ensures { result ≡ position (λ b. not (separates b)) bytes.now }
+{
+    bytes
+        .iter()
+        .position(|b| *b != b'\t' && *b != b'\r' && *b != b' ')
+}
+
+/// Whether each byte may stand before the comment of a line that is read.
+fn are_allowed(bytes: &[u8]) -> bool
+    ensures { result ≡ list_all is_allowed bytes.now }
+{
+    bytes.iter().all(|b| *b == b'\t' || *b == b'\r' || (b' ' <= *b && *b <= b'~'))
+}
+
 #[cfg(test)]
 mod tests {
     use super::*;
     use std::test::Fail;
 
     #[test]
-    fn last_feed_adds_no_line(rt: HostRuntime) -> Result<(), Fail> {
-        let with = split_lines(rt.alloc(), b"a bc\n\td\r\n")?;
-        let without = split_lines(rt.alloc(), b"a bc\n\td\r")?;
-        assert_eq!(rt; with.lines().len(), 2);
-        assert_eq!(rt; without.lines().len(), 2);
-        let words = with.words_of(0);
-        assert_eq!(rt; words.len(), 2);
-        assert_eq!(rt; words.word(1), b"bc".as_slice());
-        let last = without.words_of(1);
-        assert_eq!(rt; last.len(), 1);
-        assert_eq!(rt; last.word(0), b"d".as_slice());
+    fn open_comment_is_told_by_its_first_line(rt: HostRuntime) -> Result<(), Fail> {
+        let refused = split_lines(rt.alloc(), b"dim 3\nspecies A\n/*\nend_file\n").err();
+        assert_eq!(rt; refused, Some(TextFault::OpenComment { line: 3 }));
         Ok(())
     }
 
     #[test]
-    fn places_are_those_in_the_text(rt: HostRuntime) -> Result<(), Fail> {
-        let text = split_lines(rt.alloc(), b"\n  x yz")?;
-        let lines = text.lines();
-        assert_eq!(rt; lines.len(), 2);
-        assert_eq!(rt; lines[1].number, 2);
-        let words = lines[1].words.as_slice();
-        assert_eq!(rt; words.len(), 2);
-        assert_eq!(rt; words[0], Span { start: 3, end: 4 });
-        assert_eq!(rt; words[1], Span { start: 5, end: 7 });
+    fn only_the_word_itself_opens_and_closes(rt: HostRuntime) -> Result<(), Fail> {
+        let text = split_lines(rt.alloc(), b"/*x\n/*#y\n*/z\n*/ rest\n\n \"a b # c\" d")?;
+        assert_eq!(rt; text.len(), 2);
+        assert_eq!(rt; text.number(0), 1);
+        let first = text.words_of(0);
+        assert_eq!(rt; first.len(), 1);
+        assert_eq!(rt; first.word(0), b"/*x".as_slice());
+        assert_eq!(rt; text.number(1), 6);
+        let last = text.words_of(1);
+        assert_eq!(rt; last.len(), 2);
+        assert_eq!(rt; last.word(0), b"\"a".as_slice());
         Ok(())
     }
 
     #[test]
-    fn empty_text_has_no_line(rt: HostRuntime) -> Result<(), Fail> {
-        let text = split_lines(rt.alloc(), b"")?;
-        assert!(rt; text.lines().is_empty());
-        assert!(rt; text.words_of(0).is_empty());
+    fn bytes_behind_the_end_are_not_seen(rt: HostRuntime) -> Result<(), Fail> {
+        let text = split_lines(rt.alloc(), b"a \r\nend_file \0\n\0")?;
+        assert_eq!(rt; text.len(), 1);
+        assert_eq!(rt; text.words_of(0).len(), 1);
+        let refused = split_lines(rt.alloc(), b"a\n\0 end_file").err();
+        assert_eq!(rt; refused, Some(TextFault::BadByte { line: 2 }));
         Ok(())
     }
 
     #[test]
-    fn feeds_end_lines_without_words(rt: HostRuntime) -> Result<(), Fail> {
-        let text = split_lines(rt.alloc(), b"\n\n")?;
-        assert_eq!(rt; text.lines().len(), 2);
-        assert!(rt; text.words_of(1).is_empty());
+    fn lines_up_to_the_most_are_read(rt: HostRuntime) -> Result<(), Fail> {
+        let mut bytes = vec![in rt.alloc(); b'\n'; 65536]?;
+        let most = split_lines(rt.alloc(), &bytes)?;
+        assert!(rt; most.is_empty());
+        bytes.push(b'#')?;
+        let refused = split_lines(rt.alloc(), &bytes).err();
+        assert_eq!(rt; refused, Some(TextFault::TooManyLines));
         Ok(())
     }
 }

@@ -1,9 +1,15 @@
 use std::alloc::{AllocError, AllocFailed};
 use std::fmt;
 
-/// Why a text is not split into lines.
+/// Why a text is not split into lines. Lines are numbered from 1.
 #[derive(Clone, Copy, Debug, PartialEq, Eq)]
 pub enum TextFault {
+    /// A byte that isn't allowed stands before the comment of this line.
+    BadByte { line: u32 },
+    /// The block comment that this line opened is not closed.
+    OpenComment { line: u32 },
+    /// The text has more than 65,536 lines.
+    TooManyLines,
     /// There was no memory left for the lines.
     OutOfMemory,
 }
@@ -11,6 +17,9 @@ pub enum TextFault {
 impl fmt::Display for TextFault {
     fn fmt<W: fmt::Write>(&self, f: &mut fmt::Formatter<W>) -> fmt::Result {
         match self {
+            TextFault::BadByte { line } => write!(f, "line {line}: byte not allowed"),
+            TextFault::OpenComment { line } => write!(f, "line {line}: comment not closed"),
+            TextFault::TooManyLines => write!(f, "line 65537: too many"),
             TextFault::OutOfMemory => write!(f, "out of memory"),
         }
     }

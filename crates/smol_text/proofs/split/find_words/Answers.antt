@@ -9,7 +9,7 @@ use Rattle.smol_text.proofs.split.find_words.Goals.{then-start-end+in_ok-push, e
 
 pub loop-start-preserved : goal.loop-start-preserved
 loop-start-preserved c =
-    let line = c.args.line.now in
+    let line = c.args.part.now in
     let before = c.loop-start.spans.items in
     let items = λ (v : Vec Span Global). v.items in
     let is_n = position_or_len-rest separates line c.loop-start.start c.unwrap_or.result c.first_separator.result c.first_separator.ensures c.unwrap_or.ensures in

@@ -1,0 +1,87 @@
+-- How the lines of a text are read: block comments, and the end of the text. The lines before a line stand nearest first.
+use Rattle.std.specs.Prelude.{ℕ, ◌+◌, ◌||◌, ◌==◌, Bool, true, false, not, ◌&&◌, nat_le, List, [], ◌∷◌, ◌++◌, length, Option, None, Some, Result, Ok, Err, if◌then◌else◌, codes, slice_get, unwrap_or}
+use Rattle.std.specs.List.{list_all}
+use Rattle.std.specs.Str.{bytes_eq}
+use Rattle.smol_text.specs.declared.standing.Standing.{Standing}
+use Rattle.smol_text.specs.declared.standing.Standing.TheVariants.{Open, Commented, Ended}
+use Rattle.smol_text.specs.declared.text_fault.TextFault.{TextFault}
+use Rattle.smol_text.specs.declared.text_fault.TextFault.TheVariants.{BadByte, OpenComment, TooManyLines}
+use Rattle.smol_text.specs.Lines.{raw_lines, uncommented, words}
+
+-- a line that makes a statement: its number, and its words
+pub record Stated : Type 0 where
+  pub number : ℕ
+  pub words : List (List ℕ)
+
+-- a line stands open to be read: neither within the block comment that an earlier line opened nor behind the end of the text
+abbrev pub is_open : Standing → Bool
+is_open Open = true
+is_open (Commented opened) = false
+is_open Ended = false
+
+-- a line stands behind the end of the text
+abbrev pub is_ended : Standing → Bool
+is_ended Open = false
+is_ended (Commented opened) = false
+is_ended Ended = true
+
+-- the first word of a line, and no bytes where there is none
+abbrev pub first_word : List ℕ → List ℕ
+first_word line = unwrap_or (slice_get (words line) 0) []
+
+-- how the line behind a line of this number stands, by how that one stands and by its first word
+abbrev pub standing_after : ℕ → Standing → List ℕ → Standing
+standing_after number Open word =
+    if bytes_eq word (codes "/*") then Commented number else (if bytes_eq word (codes "end_file") then Ended else Open)
+standing_after number (Commented opened) word = if bytes_eq word (codes "*/") then Open else Commented opened
+standing_after number Ended word = Ended
+
+-- how the line behind these lines stands
+abbrev pub standing : List (List ℕ) → Standing
+standing [] = Open
+standing (line ∷ before) = standing_after (length before + 1) (standing before) (first_word line)
+
+-- a line is read where it stands open and neither opens a comment nor ends the text
+abbrev pub is_read : List (List ℕ) → List ℕ → Bool
+is_read before line = is_open (standing before) && is_open (standing (line ∷ before))
+
+-- a tab, a carriage return, a space, or a byte that can be seen
+abbrev pub is_allowed : ℕ → Bool
+is_allowed b = b == 9 || b == 13 || (nat_le 32 b && nat_le b 126)
+
+-- the fault of a line behind these lines: one line more than 65,536, or a byte that isn't allowed before the comment of a line that is read
+abbrev pub line_fault : List (List ℕ) → List ℕ → Option TextFault
+line_fault before line =
+    if is_ended (standing before)
+    then None
+    else (if length before == 65536
+    then Some TooManyLines
+    else (if is_read before line && not (list_all is_allowed (uncommented line)) then Some (BadByte (length before + 1)) else None))
+
+-- the statement that a line makes, where it is read and has a word
+abbrev pub stated_if : Bool → ℕ → List (List ℕ) → List Stated
+stated_if false number words = []
+stated_if true number [] = []
+stated_if true number (word ∷ words) = record { number = number; words = word ∷ words } ∷ []
+
+-- behind the last line a comment is still open, or nothing is at fault
+abbrev pub end_fault : Standing → Result (List Stated) TextFault
+end_fault Open = Ok []
+end_fault (Commented opened) = Err (OpenComment opened)
+end_fault Ended = Ok []
+
+-- a fault ends the reading, and else these statements come before the others
+abbrev pub behind : Option TextFault → List Stated → Result (List Stated) TextFault → Result (List Stated) TextFault
+behind (Some fault) statements rest = Err fault
+behind None statements (Ok more) = Ok (statements ++ more)
+behind None statements (Err fault) = Err fault
+
+-- reading on behind these lines
+abbrev pub statements_from : List (List ℕ) → List (List ℕ) → Result (List Stated) TextFault
+statements_from before [] = end_fault (standing before)
+statements_from before (line ∷ lines) =
+    behind (line_fault before line) (stated_if (is_read before line) (length before + 1) (words line)) (statements_from (line ∷ before) lines)
+
+-- the lines of a text that make statements, or the first fault
+unfoldable pub statements_of : List ℕ → Result (List Stated) TextFault
+statements_of text = statements_from [] (raw_lines text)
