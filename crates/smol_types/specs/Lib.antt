@@ -1,0 +1,4 @@
+pub mod Fault
+pub mod Steps
+pub mod Sound
+pub mod State
