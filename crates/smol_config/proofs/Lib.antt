@@ -1,0 +1,6 @@
+pub mod NameLemmas
+pub mod Lookups
+pub mod KeptLemmas
+pub mod Lines
+pub mod Soundness
+pub mod Reading

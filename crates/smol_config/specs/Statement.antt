@@ -1,0 +1,53 @@
+-- The first word of a line, and the statement that it makes.
+use Rattle.std.specs.Prelude.{ℕ, Bool, ◌==◌, List, [], ◌∷◌, if◌then◌else◌, codes}
+use Rattle.std.specs.List.{list_any}
+use Rattle.std.specs.Str.{bytes_eq}
+use Rattle.smol_config.specs.declared.statement.TheConstants.{PASSED_OVER, NOT_IN_PROFILE}
+use Rattle.smol_config.specs.declared.statement.Statement.{Statement}
+use Rattle.smol_config.specs.declared.statement.Statement.TheVariants.{PassedOver, NotInProfile, Unknown, Dim, Species, TimeStart, TimeStop, TimeStep, MaxMol, RandomSeed, Boundaries, Mol, Cmd}
+
+-- the words of the statements that are read
+abbrev pub built : List (List ℕ × Statement)
+built =
+    (codes "dim", Dim)
+    ∷ (codes "species", Species)
+    ∷ (codes "time_start", TimeStart)
+    ∷ (codes "time_stop", TimeStop)
+    ∷ (codes "time_step", TimeStep)
+    ∷ (codes "max_mol", MaxMol)
+    ∷ (codes "random_seed", RandomSeed)
+    ∷ (codes "boundaries", Boundaries)
+    ∷ (codes "mol", Mol)
+    ∷ (codes "cmd", Cmd)
+    ∷ []
+
+-- what a word stands for in a table, and else Unknown
+abbrev pub named : List (List ℕ × Statement) → List ℕ → Statement
+named [] word = Unknown
+named (entry ∷ entries) word = if bytes_eq word entry.0 then entry.1 else named entries word
+
+-- the statement that a word makes: a word about display is passed over, and one that the profile leaves out is told from an unknown one
+unfoldable pub statement_of : List ℕ → Statement
+statement_of word =
+    if list_any (λ name. bytes_eq word name.now) PASSED_OVER
+    then PassedOver
+    else (if list_any (λ name. bytes_eq word name.now) NOT_IN_PROFILE then NotInProfile else named built word)
+
+-- the place of a statement in the list of all
+abbrev pub place_of : Statement → ℕ
+place_of PassedOver = 0
+place_of NotInProfile = 1
+place_of Unknown = 2
+place_of Dim = 3
+place_of Species = 4
+place_of TimeStart = 5
+place_of TimeStop = 6
+place_of TimeStep = 7
+place_of MaxMol = 8
+place_of RandomSeed = 9
+place_of Boundaries = 10
+place_of Mol = 11
+place_of Cmd = 12
+
+abbrev pub same_statement : Statement → Statement → Bool
+same_statement a b = place_of a == place_of b
