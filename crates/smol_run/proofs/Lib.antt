@@ -1,1 +1,3 @@
 pub mod Ends
+pub mod Printing
+pub mod Times

@@ -1,4 +1,3 @@
 pub mod Words
-pub mod Names
-pub mod Counting
+pub mod Run
 pub mod Outcome

@@ -1,16 +1,20 @@
 -- How a run ends, and what it writes: the result of a call.
-use Rattle.std.specs.Prelude.{◌≡◌, ◌⊎◌, ℕ, nat_lt, List, [], ◌∷◌, ◌++◌, length, Option, None, Some, IsSomeAnd, codes, if◌then◌else◌, slice_index_or}
-use Rattle.std.specs.Option.{option_map, option_map_or}
+use Rattle.std.specs.Prelude.{◌≡◌, ◌⊎◌, ℕ, List, [], ◌∷◌, ◌++◌, Option, None, Some, Result, Ok, Err, IsSomeAnd, codes, slice_index_or}
+use Rattle.std.specs.Option.{option_and_then}
 use Rattle.std.specs.Fmt.{decimal}
 use Rattle.smol_edge.specs.Source.{Reading}
 use Rattle.smol_edge.specs.Outlets.{Piece, Written, bytes_on}
-use Rattle.smol_text.specs.Lines.{text_words}
+use Rattle.smol_types.specs.declared.draft.Draft.{Draft}
+use Rattle.smol_types.specs.declared.fault.ConfigFault.{ConfigFault}
+use Rattle.smol_types.specs.declared.fault.ConfigFault.TheVariants as fault
+use Rattle.smol_types.specs.Fault.{kind_text}
+use Rattle.smol_config.specs.Acceptance.{config_of}
 use Rattle.smol_run.specs.declared.status.Status.{Status}
 use Rattle.smol_run.specs.declared.status.Status.TheVariants.{Done, Usage, Refused, Input, Output, Memory}
 use Rattle.smol_run.specs.declared.words.Job.{Job}
 use Rattle.smol_run.specs.declared.words.Job.TheVariants.{File}
 use Rattle.smol_run.specs.Words.{job_of}
-use Rattle.smol_run.specs.Counting.{Words, fault_line, crowd_of}
+use Rattle.smol_run.specs.Run.{pieces_of}
 
 -- a status, the names of the files that are opened for writing, and the bytes that are written, each with its outlet
 pub record Outcome : Type 0 where
@@ -30,25 +34,20 @@ misused = ends_with_line Usage (codes "usage: smol FILE [--seed N] [--workers N]
 abbrev pub refused : ℕ → List ℕ → Outcome
 refused line why = ends_with_line Refused (codes "line " ++ decimal line ++ codes ": " ++ why)
 
--- what `molcount` prints: the time and how many molecules there are
-abbrev pub count_line : ℕ → ℕ → List ℕ
-count_line time count = decimal time ++ codes " " ++ decimal count ++ codes "\n"
+-- an accepted text is run, and another is refused at its first fault. Want of memory is no outcome
+abbrev pub outcome_of_config : Result Draft ConfigFault → Option Outcome
+outcome_of_config (Ok draft) = Some (record { status = Done; names = []; pieces = pieces_of draft })
+outcome_of_config (Err (fault.At line kind)) = Some (refused line (kind_text kind))
+outcome_of_config (Err fault.OutOfMemory) = None
 
--- the molecules stand still for the one step, and are counted before and after it
-abbrev pub counts : ℕ → Outcome
-counts count = record { status = Done; names = []; pieces = (0, count_line 0 count) ∷ (0, count_line 1 count) ∷ [] }
-
--- a text that is of the form is run, and another is refused at its first line that isn't
-unfoldable pub outcome_of_lines : List Words → Outcome
-outcome_of_lines lines = option_map_or (λ line. refused line (codes "unknown statement")) (fault_line lines) (counts (crowd_of lines))
-
-unfoldable pub outcome_of_text : List ℕ → Outcome
-outcome_of_text text = if nat_lt 4194304 (length text) then refused 0 (codes "file too long") else outcome_of_lines (text_words text)
+-- a text ends as what it says as a configuration
+abbrev pub outcome_of_text : List ℕ → Option Outcome
+outcome_of_text text = outcome_of_config (config_of text)
 
 -- the text is the contents of the file that is named. A file that isn't there has no outcome
 abbrev pub outcome_of_job : Option Job → List (List ℕ) → (List ℕ → Option (List ℕ)) → Option Outcome
 outcome_of_job None words contents = Some misused
-outcome_of_job (Some (File index)) words contents = option_map outcome_of_text (contents (slice_index_or words index []))
+outcome_of_job (Some (File index)) words contents = option_and_then outcome_of_text (contents (slice_index_or words index []))
 
 -- what the words of the command line give over these files
 abbrev pub outcome_of : List (List ℕ) → (List ℕ → Option (List ℕ)) → Option Outcome

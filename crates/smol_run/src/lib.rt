@@ -1,10 +1,10 @@
 //! The whole program but for its real outside: from the words of the command line to the bytes on the outlets.
 #![tactic(auto)]
 
-mod counting;
-mod names;
+mod counts;
 mod program;
 mod status;
+mod stop;
 #[cfg(test)]
 mod tests;
 mod words;

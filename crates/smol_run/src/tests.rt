@@ -46,32 +46,6 @@ fn text_of(alloc: Global, lines: &[&str]) -> Result<String, AllocError> {
     Ok(text)
 }
 
-// The lines with another one in the place of the line of this number.
-fn spoiled(alloc: Global, number: usize, line: &str) -> Result<String, AllocError> {
-    let mut text = String::new(alloc);
-    for (index, due) in LINES.iter().enumerate() {
-        text.push_str(if index + 1 == number { line } else { due })?;
-        text.push_str("\n")?;
-    }
-    Ok(text)
-}
-
-// The lines without the line of this number.
-fn shortened(alloc: Global, number: usize) -> Result<String, AllocError> {
-    let mut text = String::new(alloc);
-    for (index, due) in LINES.iter().enumerate() {
-        if index + 1 != number {
-            text.push_str(due)?;
-            text.push_str("\n")?;
-        }
-    }
-    Ok(text)
-}
-
-fn refusal(alloc: Global, number: usize) -> Result<String, AllocError> {
-    format!(in alloc; "line {number}: unknown statement\n")
-}
-
 fn owned(alloc: Global, words: &[&str]) -> Result<Vec<String>, AllocError> {
     let mut all = Vec::new(alloc);
     for word in words {
@@ -92,13 +66,13 @@ fn meets<R: Abort + AllocGlobal + Sync + Threads>(rt: &R, row: &Row<'_>) -> Resu
     Ok(())
 }
 
-// Meets the row of a text that is refused at the line of this number.
+// Meets the row of a text that is refused with this line.
 fn refuses<R: Abort + AllocGlobal + Sync + Threads>(
     rt: &R,
-    text: &str,
-    number: usize,
+    lines: &[&str],
+    stderr: &str,
 ) -> Result<(), AllocError> {
-    let stderr = refusal(rt.alloc(), number)?;
+    let text = text_of(rt.alloc(), lines)?;
     let row = Row {
         words: &["f"],
         bytes: text.as_bytes(),
@@ -106,7 +80,7 @@ fn refuses<R: Abort + AllocGlobal + Sync + Threads>(
         failing_writes: &[],
         status: Status::Refused,
         stdout: "",
-        stderr: stderr.as_str(),
+        stderr,
     };
     meets(rt, &row)
 }
@@ -114,7 +88,6 @@ fn refuses<R: Abort + AllocGlobal + Sync + Threads>(
 #[test]
 fn ends_with_status_and_bytes(rt: HostRuntime) -> Result<(), Fail> {
     let text = text_of(rt.alloc(), &LINES)?;
-    let spaced = spoiled(rt.alloc(), 9, "mol  000007\tA 0 100 50\r")?;
     let counted = Row {
         words: &["f"],
         bytes: text.as_bytes(),
@@ -144,11 +117,6 @@ fn ends_with_status_and_bytes(rt: HostRuntime) -> Result<(), Fail> {
         counted,
         Row {
             bytes: text.trim_end().as_bytes(),
-            ..counted
-        },
-        Row {
-            bytes: spaced.as_bytes(),
-            stdout: "0 7\n1 7\n",
             ..counted
         },
         Row {
@@ -205,37 +173,63 @@ fn ends_with_status_and_bytes(rt: HostRuntime) -> Result<(), Fail> {
 }
 
 #[test]
-fn a_line_is_missing(rt: HostRuntime) -> Result<(), Fail> {
-    for number in 1..=LINES.len() {
-        refuses(&rt, shortened(rt.alloc(), number)?.as_str(), number)?;
-    }
+fn refusals_name_their_line(rt: HostRuntime) -> Result<(), Fail> {
+    refuses(&rt, &[], "line 0: dim is missing\n")?;
+    refuses(
+        &rt,
+        &["dim 3", "species A", "/*"],
+        "line 3: comment not closed\n",
+    )?;
+    refuses(&rt, &["species A A"], "line 1: name already used\n")?;
+    refuses(
+        &rt,
+        &[
+            "dim 1",
+            "species A",
+            "boundaries x 0 100",
+            "# a comment",
+            "mol 1 A 0.0000001",
+        ],
+        "line 5: number too fine\n",
+    )?;
+    refuses(
+        &rt,
+        &["dim 1", "species A", "boundaries x 0 100", "time_stop 1"],
+        "line 0: time_step is missing\n",
+    )?;
     Ok(())
 }
 
 #[test]
-fn a_line_is_not_of_its_form(rt: HostRuntime) -> Result<(), Fail> {
-    for (number, line) in [
-        (1, "dim 2"),
-        (2, "species all"),
-        (3, "boundaries x 5 5 r"),
-        (4, "boundaries y 0 0000100 r"),
-        (5, "boundaries z 0 100 p"),
-        (6, "time_start 0 0"),
-        (7, "time_stop 2"),
-        (8, ""),
-        (9, "mol 100001 A 50 50 50"),
-        (9, "mol 3 B 50 50 50"),
-        (9, "mol 3 A 50 101 50"),
-        (10, "cmd a molcount stdout"),
-        (11, "cmd a molcount stderr"),
-    ] {
-        refuses(&rt, spoiled(rt.alloc(), number, line)?.as_str(), number)?;
-    }
-    refuses(
-        &rt,
-        spoiled(rt.alloc(), 11, "cmd a molcount stdout\n")?.as_str(),
-        12,
+fn counts_each_species_at_its_time(rt: HostRuntime) -> Result<(), Fail> {
+    let text = text_of(
+        rt.alloc(),
+        &[
+            "dim 1",
+            "species A B",
+            "boundaries x -1 1 p",
+            "time_start -0.5",
+            "time_stop 0.6",
+            "time_step 0.25",
+            "cmd a molcount stdout",
+            "mol 3 A 0",
+            "mol 2 B(solution) 1",
+            "mol 4 A -1",
+            "cmd b molcount stdout",
+            "end_file",
+            "bogus",
+        ],
     )?;
+    let row = Row {
+        words: &["f"],
+        bytes: text.as_bytes(),
+        failing_reads: &[],
+        failing_writes: &[],
+        status: Status::Done,
+        stdout: "-0.5 7 2\n0.75 7 2\n",
+        stderr: "",
+    };
+    meets(&rt, &row)?;
     Ok(())
 }
 
