@@ -9,7 +9,8 @@ const BASE: &str =
     "dim 3\nspecies A\nboundaries x 0 100 r\nboundaries y 0 100 r\nboundaries z 0 100 r\ntime_start 0\ntime_stop 1\ntime_step 1\n";
 
 // Lines that follow the eight of BASE, and the line and the kind of their fault.
-const BEHIND_BASE: [(&str, u32, Kind); 61] = [
+const BEHIND_BASE: [(&str, u32, Kind); 85] = [
+    // The first word.
     ("bogus", 9, Kind::UnknownStatement),
     ("*/", 9, Kind::UnknownStatement),
     ("Dim 3", 9, Kind::UnknownStatement),
@@ -18,10 +19,34 @@ const BEHIND_BASE: [(&str, u32, Kind); 61] = [
         12,
         Kind::UnknownStatement,
     ),
-    ("define N 3", 9, Kind::NotInProfile),
+    ("low_wall", 9, Kind::NotInProfile),
+    ("high_wall", 9, Kind::NotInProfile),
+    ("define", 9, Kind::NotInProfile),
+    ("undefine", 9, Kind::NotInProfile),
+    ("ifdefine", 9, Kind::NotInProfile),
+    ("ifundefine", 9, Kind::NotInProfile),
+    ("else", 9, Kind::NotInProfile),
+    ("endif", 9, Kind::NotInProfile),
+    ("read_file", 9, Kind::NotInProfile),
+    ("output_root", 9, Kind::NotInProfile),
+    ("output_precision", 9, Kind::NotInProfile),
+    ("append_files", 9, Kind::NotInProfile),
+    ("start_port", 9, Kind::NotInProfile),
+    ("start_lattice", 9, Kind::NotInProfile),
+    ("start_filament", 9, Kind::NotInProfile),
+    ("start_reaction", 9, Kind::NotInProfile),
+    ("drift", 9, Kind::NotInProfile),
+    ("difm", 9, Kind::NotInProfile),
+    ("surface_mol", 9, Kind::NotInProfile),
+    ("reaction_rate", 9, Kind::NotInProfile),
+    ("rate", 9, Kind::NotInProfile),
+    ("unbounded_emitter", 9, Kind::NotInProfile),
     ("compartment", 9, Kind::NotInProfile),
+    ("set", 9, Kind::NotInProfile),
     ("bogus\nspecies A", 9, Kind::UnknownStatement),
+    // `dim`.
     ("dim", 9, Kind::RepeatedStatement),
+    // `species`.
     ("species", 9, Kind::WrongWordCount),
     ("species 1B", 9, Kind::NotInProfile),
     ("species B-2", 9, Kind::NotInProfile),
@@ -31,19 +56,32 @@ const BEHIND_BASE: [(&str, u32, Kind); 61] = [
         9,
         Kind::NotInProfile,
     ),
+    (
+        "species a u dim bbbbbbbbbbbbbbbbbbbbbbbbbbbbbbbbbbbbbbbbbbbbbbbbbbbbbbbbbbbbbbbb\nbogus",
+        10,
+        Kind::UnknownStatement,
+    ),
     ("species A", 9, Kind::RepeatedName),
     ("species B C B", 9, Kind::RepeatedName),
     ("species B stderr A", 9, Kind::NotInProfile),
     ("species B A stderr", 9, Kind::RepeatedName),
+    // Times.
     ("time_start", 9, Kind::RepeatedStatement),
     ("time_stop x", 9, Kind::RepeatedStatement),
     ("time_step 0", 9, Kind::RepeatedStatement),
+    // `max_mol`.
     ("max_mol", 9, Kind::WrongWordCount),
     ("max_mol 5 5", 9, Kind::WrongWordCount),
     ("max_mol +5", 9, Kind::NotNumber),
     ("max_mol 0", 9, Kind::OutOfRange),
     ("max_mol 1000001", 9, Kind::OutOfRange),
+    (
+        "max_mol 1\nmol 1000000 A 0 0 0\nbogus",
+        11,
+        Kind::UnknownStatement,
+    ),
     ("max_mol 1000000\nmax_mol 0", 10, Kind::RepeatedStatement),
+    // `random_seed`.
     ("random_seed", 9, Kind::WrongWordCount),
     ("random_seed time 5", 9, Kind::WrongWordCount),
     ("random_seed time", 9, Kind::NotInProfile),
@@ -54,10 +92,12 @@ const BEHIND_BASE: [(&str, u32, Kind); 61] = [
         10,
         Kind::RepeatedStatement,
     ),
+    // `boundaries`.
     ("boundaries x a 1", 9, Kind::NotNumber),
     ("boundaries x 5 1 q", 9, Kind::BadAction),
     ("boundaries x 5 1", 9, Kind::OutOfRange),
     ("boundaries 0 5 6", 9, Kind::RepeatedStatement),
+    // `mol`.
     ("mol", 9, Kind::WrongWordCount),
     ("mol 1 A 50 50", 9, Kind::WrongWordCount),
     ("mol 1.0 B 50 50 50", 9, Kind::NotNumber),
@@ -74,6 +114,7 @@ const BEHIND_BASE: [(&str, u32, Kind); 61] = [
     ("mol 1 A 50 100.000001 x", 9, Kind::OutsideWalls),
     ("mol 1 A 50 50 101", 9, Kind::OutsideWalls),
     ("mol 1 A 0 50 100\nbogus", 10, Kind::UnknownStatement),
+    // `cmd`.
     ("cmd", 9, Kind::WrongWordCount),
     ("cmd B", 9, Kind::BadTiming),
     ("cmd b", 9, Kind::WrongWordCount),
@@ -81,6 +122,7 @@ const BEHIND_BASE: [(&str, u32, Kind); 61] = [
     ("cmd b molcount", 9, Kind::WrongWordCount),
     ("cmd b molcount nofile x", 9, Kind::WrongWordCount),
     ("cmd a molcount nofile", 9, Kind::UnknownOutlet),
+    // The whole file.
     ("mol 100001 A 50 50 50", 0, Kind::TooMany),
     (
         "max_mol 3\nmol 2 A 50 50 50\nmol 2 A 50 50 50",
@@ -90,12 +132,14 @@ const BEHIND_BASE: [(&str, u32, Kind); 61] = [
 ];
 
 // Whole texts, and the line and the kind of their fault.
-const TEXTS: [(&str, u32, Kind); 50] = [
+const TEXTS: [(&str, u32, Kind); 51] = [
+    // Bytes and comments.
     ("bogus\n\ndim 3\0", 3, Kind::BadByte),
     ("graphics \u{7f}\n/*", 1, Kind::BadByte),
     ("dim 3\nspecies A\n/*", 3, Kind::OpenComment),
     ("/* \0\n*/ \0\n# \0\nbogus # \0", 4, Kind::UnknownStatement),
     ("species A\r\n\tspecies\tA\r\n", 2, Kind::RepeatedName),
+    // `dim`.
     ("dim", 1, Kind::WrongWordCount),
     ("dim 3 3", 1, Kind::WrongWordCount),
     ("dim 3.0", 1, Kind::NotNumber),
@@ -103,6 +147,7 @@ const TEXTS: [(&str, u32, Kind); 50] = [
     ("dim 0", 1, Kind::OutOfRange),
     ("dim 4", 1, Kind::OutOfRange),
     ("dim 99999999999999999999", 1, Kind::OutOfRange),
+    // Times.
     ("time_start", 1, Kind::WrongWordCount),
     ("time_start 0x", 1, Kind::NotNumber),
     ("time_start 1000000001.0000000001", 1, Kind::TooFine),
@@ -116,6 +161,8 @@ const TEXTS: [(&str, u32, Kind); 50] = [
     ("time_step -1e-10", 1, Kind::TooFine),
     ("time_step 1e999", 1, Kind::OutOfRange),
     ("time_step 0", 1, Kind::OutOfRange),
+    ("time_step 1e-9\nbogus", 2, Kind::UnknownStatement),
+    // `boundaries`.
     ("boundaries", 1, Kind::BadOrder),
     ("dim 2\nboundaries x 0", 2, Kind::WrongWordCount),
     ("dim 2\nboundaries x 0 1 r r", 2, Kind::WrongWordCount),
@@ -128,6 +175,7 @@ const TEXTS: [(&str, u32, Kind); 50] = [
     ("dim 2\nboundaries x 5 1000001 q", 2, Kind::OutOfRange),
     ("dim 2\nboundaries x 5 6 R", 2, Kind::BadAction),
     ("dim 2\nboundaries x 5 5", 2, Kind::OutOfRange),
+    // `mol` and `cmd` need `dim` and all walls.
     ("mol", 1, Kind::BadOrder),
     ("dim 2\nboundaries x 0 1\nmol 1 A 0 0", 3, Kind::BadOrder),
     (
@@ -141,6 +189,7 @@ const TEXTS: [(&str, u32, Kind); 50] = [
         4,
         Kind::BadOrder,
     ),
+    // The whole file.
     ("", 0, Kind::Missing(Need::Dim)),
     (
         "time_start -1e9\ntime_stop 1e9\ntime_step 1e9",
@@ -179,6 +228,47 @@ const TEXTS: [(&str, u32, Kind); 50] = [
     ),
 ];
 
+// The first words of lines about display.
+const DISPLAY: [&str; 37] = [
+    "graphics",
+    "graphic_iter",
+    "graphic_delay",
+    "quit_at_end",
+    "frame_thickness",
+    "frame_color",
+    "frame_colour",
+    "grid_thickness",
+    "grid_color",
+    "grid_colour",
+    "background_color",
+    "background_colour",
+    "display_size",
+    "color",
+    "colour",
+    "light",
+    "text_color",
+    "text_colour",
+    "text_display",
+    "tiff_iter",
+    "tiff_name",
+    "tiff_min",
+    "tiff_max",
+    "polygon",
+    "thickness",
+    "stipple",
+    "shininess",
+    "max_species",
+    "max_panels",
+    "molecule_lists",
+    "mol_list",
+    "accuracy",
+    "molperbox",
+    "boxsize",
+    "epsilon",
+    "margin",
+    "neighbor_dist",
+];
+
 // BASE, and lines that follow it.
 fn behind_base(alloc: Global, lines: &str) -> Result<Vec<u8>, AllocError> {
     let mut text = Vec::from_slice(alloc, BASE.as_bytes())?;
@@ -207,6 +297,17 @@ fn texts_are_refused(rt: HostRuntime) {
         let fault = fault_of(rt.alloc(), text.as_bytes());
         assert_eq!(rt; fault, Some(ConfigFault::At { line, kind }), "{text}");
     }
+}
+
+#[test]
+fn lines_about_display_are_passed_over(rt: HostRuntime) -> Result<(), Fail> {
+    let mut text = behind_base(rt.alloc(), "")?;
+    for word in DISPLAY {
+        text.extend_from_slice(word.as_bytes())?;
+        text.extend_from_slice(b" x \"\n")?;
+        assert_eq!(rt; fault_of(rt.alloc(), &text), None, "{word}");
+    }
+    Ok(())
 }
 
 #[test]
@@ -309,19 +410,19 @@ fn a_configuration_says_what_its_lines_say(rt: HostRuntime) -> Result<(), Fail> 
     Ok(())
 }
 
-// Half a tick-pair: a molecule stands half a micro above its coordinate, and on the upper wall half a micro below.
+// A tick is half a micro. A molecule stands a tick above its coordinate, and on the upper wall a tick below it.
 #[test]
 fn walls_and_places_are_in_ticks(rt: HostRuntime) -> Result<(), Fail> {
     let lines = "max_mol 1000000\nmol 999999 A 100 0 1e-6\nmol 1 A 50 100 99.999999\n";
     let text = behind_base(rt.alloc(), lines)?;
     let config = read_config(rt.alloc(), &text)?;
     let walls = [
-        wall(0, 0, false),
-        wall(0, 200_000_000, true),
-        wall(1, 0, false),
-        wall(1, 200_000_000, true),
-        wall(2, 0, false),
-        wall(2, 200_000_000, true),
+        wall(0, 0, false, Letter::R),
+        wall(0, 200_000_000, true, Letter::R),
+        wall(1, 0, false, Letter::R),
+        wall(1, 200_000_000, true, Letter::R),
+        wall(2, 0, false, Letter::R),
+        wall(2, 200_000_000, true, Letter::R),
     ];
     assert_eq!(rt; config.walls(), walls.as_slice());
     let placings = [
@@ -346,11 +447,28 @@ fn walls_and_places_are_in_ticks(rt: HostRuntime) -> Result<(), Fail> {
     Ok(())
 }
 
-fn wall(axis: u8, plane: i64, upper: bool) -> Wall {
+fn wall(axis: u8, plane: i64, upper: bool, letter: Letter) -> Wall {
     Wall {
         axis,
         plane,
         upper,
-        letter: Letter::R,
+        letter,
     }
+}
+
+#[test]
+fn letters_say_what_walls_do(rt: HostRuntime) -> Result<(), Fail> {
+    let text =
+        b"dim 3\nboundaries 2 0 1 t\nboundaries x -10 1 p\nboundaries 1 0 1 a\ntime_stop 1\ntime_step 1";
+    let config = read_config(rt.alloc(), text)?;
+    let walls = [
+        wall(0, -20_000_000, false, Letter::P),
+        wall(0, 2_000_000, true, Letter::P),
+        wall(1, 0, false, Letter::A),
+        wall(1, 2_000_000, true, Letter::A),
+        wall(2, 0, false, Letter::T),
+        wall(2, 2_000_000, true, Letter::T),
+    ];
+    assert_eq!(rt; config.walls(), walls.as_slice());
+    Ok(())
 }
