@@ -4,3 +4,4 @@ pub mod KeptLemmas
 pub mod Lines
 pub mod Soundness
 pub mod Reading
+pub mod StatementLemmas

@@ -2,7 +2,6 @@
 use Rattle.std.specs.Prelude.{ℕ, Bool, ◌==◌, List, [], ◌∷◌, if◌then◌else◌, codes}
 use Rattle.std.specs.List.{list_any}
 use Rattle.std.specs.Str.{bytes_eq}
-use Rattle.smol_config.specs.declared.statement.TheConstants.{PASSED_OVER, NOT_IN_PROFILE}
 use Rattle.smol_config.specs.declared.statement.Statement.{Statement}
 use Rattle.smol_config.specs.declared.statement.Statement.TheVariants.{PassedOver, NotInProfile, Unknown, Dim, Species, TimeStart, TimeStop, TimeStep, MaxMol, RandomSeed, Boundaries, Mol, Cmd}
 
@@ -21,6 +20,77 @@ built =
     ∷ (codes "cmd", Cmd)
     ∷ []
 
+-- the first words of lines about display, which are passed over unread
+abbrev pub display_words : List (List ℕ)
+display_words =
+    codes "graphics"
+    ∷ codes "graphic_iter"
+    ∷ codes "graphic_delay"
+    ∷ codes "quit_at_end"
+    ∷ codes "frame_thickness"
+    ∷ codes "frame_color"
+    ∷ codes "frame_colour"
+    ∷ codes "grid_thickness"
+    ∷ codes "grid_color"
+    ∷ codes "grid_colour"
+    ∷ codes "background_color"
+    ∷ codes "background_colour"
+    ∷ codes "display_size"
+    ∷ codes "color"
+    ∷ codes "colour"
+    ∷ codes "light"
+    ∷ codes "text_color"
+    ∷ codes "text_colour"
+    ∷ codes "text_display"
+    ∷ codes "tiff_iter"
+    ∷ codes "tiff_name"
+    ∷ codes "tiff_min"
+    ∷ codes "tiff_max"
+    ∷ codes "polygon"
+    ∷ codes "thickness"
+    ∷ codes "stipple"
+    ∷ codes "shininess"
+    ∷ codes "max_species"
+    ∷ codes "max_panels"
+    ∷ codes "molecule_lists"
+    ∷ codes "mol_list"
+    ∷ codes "accuracy"
+    ∷ codes "molperbox"
+    ∷ codes "boxsize"
+    ∷ codes "epsilon"
+    ∷ codes "margin"
+    ∷ codes "neighbor_dist"
+    ∷ []
+
+-- the first words of lines that the profile leaves out
+abbrev pub left_out_words : List (List ℕ)
+left_out_words =
+    codes "low_wall"
+    ∷ codes "high_wall"
+    ∷ codes "define"
+    ∷ codes "undefine"
+    ∷ codes "ifdefine"
+    ∷ codes "ifundefine"
+    ∷ codes "else"
+    ∷ codes "endif"
+    ∷ codes "read_file"
+    ∷ codes "output_root"
+    ∷ codes "output_precision"
+    ∷ codes "append_files"
+    ∷ codes "start_port"
+    ∷ codes "start_lattice"
+    ∷ codes "start_filament"
+    ∷ codes "start_reaction"
+    ∷ codes "drift"
+    ∷ codes "difm"
+    ∷ codes "surface_mol"
+    ∷ codes "reaction_rate"
+    ∷ codes "rate"
+    ∷ codes "unbounded_emitter"
+    ∷ codes "compartment"
+    ∷ codes "set"
+    ∷ []
+
 -- what a word stands for in a table, and else Unknown
 abbrev pub named : List (List ℕ × Statement) → List ℕ → Statement
 named [] word = Unknown
@@ -29,9 +99,9 @@ named (entry ∷ entries) word = if bytes_eq word entry.0 then entry.1 else name
 -- the statement that a word makes: a word about display is passed over, and one that the profile leaves out is told from an unknown one
 unfoldable pub statement_of : List ℕ → Statement
 statement_of word =
-    if list_any (λ name. bytes_eq word name.now) PASSED_OVER
+    if list_any (bytes_eq word) display_words
     then PassedOver
-    else (if list_any (λ name. bytes_eq word name.now) NOT_IN_PROFILE then NotInProfile else named built word)
+    else (if list_any (bytes_eq word) left_out_words then NotInProfile else named built word)
 
 -- the place of a statement in the list of all
 abbrev pub place_of : Statement → ℕ

@@ -102,7 +102,7 @@ impl Statement {
     ghost use Rattle.smol_config.specs.Statement.{built, named, statement_of};
 
     /// The statement that a word makes at the beginning of a line.
-    #[tactic(auto, unfolding(crate::specs::Statement::statement_of))]
+    #[tactic(auto, using(crate::proofs::StatementLemmas::display_words_are_looked_for, crate::proofs::StatementLemmas::left_out_words_are_looked_for), unfolding(crate::specs::Statement::statement_of))]
     pub fn of(word: &[u8]) -> Statement
         ensures { result ≡ statement_of word.now }
     {
