@@ -10,7 +10,7 @@ use Rattle.smol_types.specs.declared.command.Act.TheVariants.{Count}
 use Rattle.smol_types.specs.declared.command.Command.{Command}
 use Rattle.smol_config.specs.declared.statement.Statement.TheVariants.{Cmd}
 use Rattle.smol_config.specs.Look.{Words, word_at, makes}
-use Rattle.smol_config.specs.Boundaries.{needs_walls}
+use Rattle.smol_config.specs.Walls.{needs_walls}
 use Rattle.smol_config.specs.Tests.{first_fault, unless, word_count}
 
 -- when a command is due: `b` before the first step, `a` after the last one

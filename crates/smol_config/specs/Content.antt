@@ -9,7 +9,7 @@ use Rattle.smol_config.specs.Times.{time_of}
 use Rattle.smol_config.specs.MaxMol.{max_mol_of}
 use Rattle.smol_config.specs.RandomSeed.{seed_of}
 use Rattle.smol_config.specs.declared.bounds.Bounds.{Bounds}
-use Rattle.smol_config.specs.Boundaries.{axes_of, bounds_of}
+use Rattle.smol_config.specs.Walls.{axes_of, bounds_of}
 use Rattle.smol_config.specs.Mol.{no_bounds, placings_of}
 use Rattle.smol_config.specs.Cmd.{commands_of}
 

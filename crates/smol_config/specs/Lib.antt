@@ -9,6 +9,7 @@ pub mod SpeciesWord
 pub mod Times
 pub mod MaxMol
 pub mod RandomSeed
+pub mod Walls
 pub mod Boundaries
 pub mod Mol
 pub mod Cmd

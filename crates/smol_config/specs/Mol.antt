@@ -15,7 +15,7 @@ use Rattle.smol_config.specs.Look.{Words, word_at, makes}
 use Rattle.smol_config.specs.Species.{species_of}
 use Rattle.smol_config.specs.SpeciesWord.{species_in}
 use Rattle.smol_config.specs.declared.bounds.Bounds.{Bounds}
-use Rattle.smol_config.specs.Boundaries.{micros_in, bounds_of, axes_of, needs_walls}
+use Rattle.smol_config.specs.Walls.{micros_in, bounds_of, axes_of, needs_walls}
 use Rattle.smol_config.specs.Tests.{first_fault, word_count}
 use Rattle.smol_config.specs.Numbers.{count_in}
 

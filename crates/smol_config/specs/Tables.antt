@@ -14,7 +14,7 @@ use Rattle.smol_config.specs.Species.{names_of, species_of}
 use Rattle.smol_config.specs.Times.{time_of}
 use Rattle.smol_config.specs.MaxMol.{max_mol_of}
 use Rattle.smol_config.specs.RandomSeed.{seed_of}
-use Rattle.smol_config.specs.Boundaries.{AreBounds}
+use Rattle.smol_config.specs.Walls.{AreBounds}
 use Rattle.smol_config.specs.Mol.{placings_of}
 use Rattle.smol_config.specs.Cmd.{commands_of}
 use Rattle.smol_config.specs.Kept.{AreSound, IsPlaced}

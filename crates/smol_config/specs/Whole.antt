@@ -12,7 +12,7 @@ use Rattle.smol_config.specs.declared.whole.Whole.{Whole as TheWhole}
 use Rattle.smol_config.specs.Look.{Words}
 use Rattle.smol_config.specs.Dim.{dims_of}
 use Rattle.smol_config.specs.Times.{time_of}
-use Rattle.smol_config.specs.Boundaries.{has_walls}
+use Rattle.smol_config.specs.Walls.{has_walls}
 use Rattle.smol_config.specs.Mol.{placings_of}
 use Rattle.smol_config.specs.Content.{content_of}
 use Rattle.smol_config.specs.Tests.{first_fault, unless}

@@ -3,7 +3,8 @@ ghost use Rattle.std.specs.Prelude.{◌≡◌, ◌≤◌, ◌<◌, ◌<ℤ◌, �
 ghost use Rattle.std.specs.Result.{result_err};
 ghost use Rattle.smol_config.specs.Look.{Words, word_at};
 ghost use Rattle.smol_config.specs.Dim.{dims_of};
-ghost use Rattle.smol_config.specs.Boundaries.{AreBounds, axis_in, axis_named, boundaries_fault, bounds_fault, bounds_value, letter_in, line_letter, micros_in, needs_walls};
+ghost use Rattle.smol_config.specs.Walls.{AreBounds, axis_in, axis_named, bounds_value, letter_in, line_letter, micros_in, needs_walls};
+ghost use Rattle.smol_config.specs.Boundaries.{boundaries_fault, bounds_fault};
 
 use crate::bounds::Bounds;
 use crate::checks::{once, unless};
@@ -17,7 +18,7 @@ use smol_types::{Kind, Letter};
 const MOST_MICROS: i64 = 1_000_000_000_000;
 
 // The axis that a word names.
-#[tactic(auto, unfolding(crate::specs::Boundaries::axis_named))]
+#[tactic(auto, unfolding(crate::specs::Walls::axis_named))]
 fn axis_named(word: &[u8]) -> Option<u8>
     ensures value { result ≡ axis_named word.now }
     ensures within { IfSome result (λ axis. axis < 3) }
@@ -56,7 +57,7 @@ pub fn micros_in(word: &[u8]) -> Result<i64, Kind>
 }
 
 // What walls do, by their letter.
-#[tactic(auto, unfolding(crate::specs::Boundaries::letter_in))]
+#[tactic(auto, unfolding(crate::specs::Walls::letter_in))]
 fn letter_in(word: &[u8]) -> Result<Letter, Kind>
     ensures { result ≡ letter_in word.now }
 {
@@ -84,7 +85,7 @@ fn line_letter(words: &LineWords<'_>) -> Result<Letter, Kind>
 }
 
 // The walls that a line gives, whatever axis it names.
-#[tactic(auto, unfolding(crate::specs::Boundaries::bounds_value, crate::specs::Boundaries::bounds_fault))]
+#[tactic(auto, unfolding(crate::specs::Walls::bounds_value, crate::specs::Boundaries::bounds_fault))]
 fn bounds_in(words: &LineWords<'_>) -> Result<Bounds, Kind>
     ensures fault { result_err result ≡ bounds_fault words.now }
     ensures value { IfOk result (λ bounds. bounds ≡ bounds_value words.now) }

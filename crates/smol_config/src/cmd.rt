@@ -4,7 +4,7 @@ ghost use Rattle.std.specs.Result.{result_err};
 ghost use Rattle.smol_types.specs.Sound.{IsAct};
 ghost use Rattle.smol_config.specs.Look.{Words};
 ghost use Rattle.smol_config.specs.Dim.{dims_of};
-ghost use Rattle.smol_config.specs.Boundaries.{AreBounds};
+ghost use Rattle.smol_config.specs.Walls.{AreBounds};
 ghost use Rattle.smol_config.specs.Cmd.{cmd_fault, command_value, commands_of, outlet_in, when_in};
 
 use crate::boundaries::needs_walls;

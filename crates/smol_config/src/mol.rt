@@ -4,7 +4,7 @@ ghost use Rattle.std.specs.Result.{result_err};
 ghost use Rattle.smol_config.specs.Look.{Words};
 ghost use Rattle.smol_config.specs.Dim.{dims_of};
 ghost use Rattle.smol_config.specs.Species.{names_of, species_of};
-ghost use Rattle.smol_config.specs.Boundaries.{AreBounds};
+ghost use Rattle.smol_config.specs.Walls.{AreBounds};
 ghost use Rattle.smol_config.specs.Mol.{coordinate_fault, coordinate_in, given_at, mol_fault, placing_value, ticks_within};
 ghost use Rattle.smol_config.specs.Kept.{AreSound, IsBounds, IsGiven, IsPlaced};
 
