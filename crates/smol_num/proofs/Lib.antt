@@ -4,4 +4,5 @@ pub mod Places
 pub mod DecimalLemmas
 pub mod PrintLemmas
 pub mod ReadBack
+pub mod RootLemmas
 pub mod GrammarLemmas
