@@ -1,6 +1,7 @@
 -- What holds of every configuration.
 use Rattle.std.specs.Prelude.{◌≡◌, ℕ, ◌+◌, ◌*◌, ◌%◌, ◌<◌, ◌≤◌, pos, ◌<ℤ◌, true, false, List, [], ◌∷◌, length, All, sum_by, unsigned_abs}
 use Rattle.smol_types.specs.declared.draft.Draft.{Draft}
+use Rattle.smol_types.specs.declared.species.Species.{Species}
 use Rattle.smol_types.specs.declared.wall.Wall.{Wall}
 use Rattle.smol_types.specs.declared.placing.Given.{Given}
 use Rattle.smol_types.specs.declared.placing.Given.TheVariants.{Any, At}
@@ -8,7 +9,7 @@ use Rattle.smol_types.specs.declared.placing.Placing.{Placing}
 use Rattle.smol_types.specs.declared.placing.Placing.TheVariants.{Mol}
 use Rattle.smol_types.specs.declared.command.Command.{Command}
 use Rattle.smol_types.specs.declared.command.Act.{Act}
-use Rattle.smol_types.specs.declared.command.Act.TheVariants.{Count}
+use Rattle.smol_types.specs.declared.command.Act.TheVariants as act
 use Rattle.smol_types.specs.Steps.{last_step}
 
 -- the lower and the upper wall of an axis: even planes within the lengths there are, the lower one below the upper
@@ -29,14 +30,14 @@ AreWalls axis [] = Unit {0}
 AreWalls axis (lower ∷ []) = ⊥
 AreWalls axis (lower ∷ upper ∷ walls) = IsAxis axis lower upper × AreWalls (axis + 1) walls
 
--- a given coordinate is odd and lies between the walls of its axis. On an axis that isn't in use it is 1
+-- a given coordinate is odd and lies between the walls of its axis, and none is to be drawn. On an axis that isn't in use it is 1
 abbrev pub AreWithin : List Wall → List Given → Type 0
 AreWithin [] [] = Unit {0}
 AreWithin [] (Any ∷ given) = ⊥
 AreWithin [] (At x ∷ given) = (x ≡ pos 1) × AreWithin [] given
 AreWithin (lower ∷ []) given = ⊥
 AreWithin (lower ∷ upper ∷ walls) [] = ⊥
-AreWithin (lower ∷ upper ∷ walls) (Any ∷ given) = AreWithin walls given
+AreWithin (lower ∷ upper ∷ walls) (Any ∷ given) = ⊥
 AreWithin (lower ∷ upper ∷ walls) (At x ∷ given) =
     (unsigned_abs x % 2 ≡ 1) × (lower.plane <ℤ x) × (x <ℤ upper.plane) × AreWithin walls given
 
@@ -44,18 +45,20 @@ AreWithin (lower ∷ upper ∷ walls) (At x ∷ given) =
 abbrev pub placed_by : Placing → ℕ
 placed_by (Mol n species at) = n
 
--- a statement places at most a million molecules, of a species that there is, between the walls
+-- a statement places at most a million molecules, of a species that there is, at three coordinates between the walls
 abbrev pub IsPlacing : ℕ → List Wall → Placing → Type 0
-IsPlacing species_count walls (Mol n species at) = (n ≤ 1000000) × (species < species_count) × AreWithin walls at
+IsPlacing species_count walls (Mol n species at) = (n ≤ 1000000) × (species < species_count) × (length at ≡ 3) × AreWithin walls at
 
 -- a command prints to an outlet that there is
 abbrev pub IsAct : Act → Type 0
-IsAct (Count out) = out ≡ 0
+IsAct (act.Count out) = out ≡ 0
+IsAct (act.List out) = out ≡ 0
 
 pub record IsSound (draft : Draft) : Type 0 where
   pub dims_above : 0 < draft.dims
   pub dims_below : draft.dims ≤ 3
   pub species : length draft.species ≤ 256
+  pub difsteps : All (λ (species : Species). species.step ≤ 1000000000) draft.species
   pub walls : AreWalls 0 draft.walls
   pub wall_count : length draft.walls ≡ 2 * draft.dims
   pub placings : All (IsPlacing (length draft.species) draft.walls) draft.placings

@@ -26,4 +26,5 @@ pub record Fits (draft : Draft) (state : State) : Type 0 where
   pub species : All (λ (mol : Mol). mol.species < length draft.species) state.mols
   pub count : length state.mols ≤ draft.max_mol
   pub step : state.step ≤ last_step draft.start draft.stop draft.step
+  pub axes : All (λ (mol : Mol). length mol.place.0 ≡ 3) state.mols
   pub places : All (λ (mol : Mol). AreCoordinates (reach state.step) draft.dims mol.place.0) state.mols

@@ -23,6 +23,8 @@ pub enum When {
 pub enum Act {
     /// Prints the time and the count of each species on this outlet.
     Count { out: u32 },
+    /// Prints the species, the place and the serial of each molecule on this outlet.
+    List { out: u32 },
 }
 
 /// A command, and when it is due.

@@ -38,3 +38,35 @@ impl State {
         })
     }
 }
+
+#[cfg(test)]
+mod tests {
+    use super::*;
+    use std::test::Fail;
+
+    #[test]
+    fn a_copy_is_equal(rt: HostRuntime) -> Result<(), Fail> {
+        let mols = [
+            Mol {
+                serial: 1,
+                species: 0,
+                place: Place([1, -3, 5]),
+            },
+            Mol {
+                serial: 4,
+                species: 2,
+                place: Place([7, 9, 1]),
+            },
+        ];
+        let state = State {
+            step: 6,
+            mols: Items::from_slice(rt.alloc(), &mols)?,
+            next: 9,
+        };
+        let copy = state.copy(rt.alloc())?;
+        assert_eq!(rt; copy.step, 6);
+        assert_eq!(rt; copy.mols.as_slice(), mols.as_slice());
+        assert_eq!(rt; copy.next, 9);
+        Ok(())
+    }
+}
