@@ -1,0 +1,4 @@
+pub mod Placement
+pub mod Step
+pub mod Lines
+pub mod Run

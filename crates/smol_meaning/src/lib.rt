@@ -1,0 +1,6 @@
+//! What a run of a configuration means: its definitions, which the crates that run it cite, and laws about them.
+#![tactic(auto)]
+
+mod law;
+
+pub use law::each_state_fits;
