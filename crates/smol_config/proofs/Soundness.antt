@@ -1,7 +1,8 @@
 -- What the tables make together is sound.
 use Rattle.std.proofs.Common.{◌≡◌, ◌≤◌, ◌<◌, ◌*◌, ◌%◌, ℕ, zero, suc, ℤ, pos, ◌<ℤ◌, ◌*ℤ◌, List, [], ◌∷◌, length, map, All, IfSome, IsSome, Option, None, Some, slice_index_or, unwrap_or, unsigned_abs, false, true, arith, refl, sym, ap, ◌∙◌, subst}
 use Rattle.std.proofs.lemmas.Int.{ints}
-use Rattle.std.proofs.lemmas.List.Elements.{All-weaker}
+use Rattle.std.proofs.lemmas.List.{length-map}
+use Rattle.std.proofs.lemmas.List.Elements.{All-map, All-weaker}
 use Rattle.smol_types.specs.declared.draft.Draft.{Draft}
 use Rattle.smol_types.specs.declared.species.Species.{Species}
 use Rattle.smol_types.specs.declared.wall.Wall.{Wall}
@@ -17,8 +18,8 @@ use Rattle.smol_config.specs.Look.{Words}
 use Rattle.smol_config.specs.Content.{content_of, walls_of}
 use Rattle.smol_config.specs.Kept.{IsBounds, IsBetween, IsGivenAt, IsGiven, IsPlaced}
 use Rattle.smol_config.specs.Tables.{Holds, IsKept}
-use Rattle.smol_config.specs.Species.{names_of}
-use Rattle.smol_config.specs.Whole.{Fits}
+use Rattle.smol_config.specs.Whole.{Fits, species_made}
+use Rattle.smol_config.proofs.Motions.{species_are}
 
 doubled_even : (x : ℤ) → unsigned_abs (pos 2 *ℤ x) % 2 ≡ 0
 doubled_even x = omega (arith, ints)
@@ -100,7 +101,7 @@ is_placing dims bounds species least most has_x has_y has_z (Mol n number []) pl
 is_placing dims bounds species least most has_x has_y has_z (Mol n number (u ∷ [])) placed = absurd placed.2
 is_placing dims bounds species least most has_x has_y has_z (Mol n number (u ∷ v ∷ [])) placed = absurd placed.2
 is_placing dims bounds species least most has_x has_y has_z (Mol n number (u ∷ v ∷ w ∷ [])) placed =
-    (placed.0, placed.1, are_within dims _ _ _ u v w least most has_x has_y has_z placed.2.0 placed.2.1 placed.2.2)
+    (placed.0, placed.1, refl, are_within dims _ _ _ u v w least most has_x has_y has_z placed.2.0 placed.2.1 placed.2.2)
 is_placing dims bounds species least most has_x has_y has_z (Mol n number (u ∷ v ∷ w ∷ more ∷ at)) placed = absurd placed.2
 
 -- a time that may be left out is within the limits either way
@@ -114,10 +115,10 @@ max_within None within = (omega arith, omega arith)
 max_within (Some count) within = (within.0, within.1)
 
 -- a draft of the tables and of what the whole file gives
-abbrev pub draft_of : Tables → Whole → List Wall → Draft
-draft_of tables whole walls = record {
+abbrev pub draft_of : Tables → Whole → List Wall → List Species → Draft
+draft_of tables whole walls species = record {
   dims = whole.dims;
-  species = tables.species;
+  species = species;
   walls = walls;
   placings = tables.placings;
   commands = tables.commands;
@@ -128,22 +129,27 @@ draft_of tables whole walls = record {
   seed = tables.seed;
 }
 
-pub draft_is_sound : (tables : Tables) (whole : Whole) (walls : List Wall) → IsKept tables → Fits tables whole → walls ≡ walls_of whole.dims (slice_index_or tables.bounds 0 None) (slice_index_or tables.bounds 1 None) (slice_index_or tables.bounds 2 None) → IsSound (draft_of tables whole walls)
-draft_is_sound tables whole walls kept fits made =
+pub draft_is_sound : (tables : Tables) (whole : Whole) (walls : List Wall) (species : List Species) → IsKept tables → Fits tables whole → walls ≡ walls_of whole.dims (slice_index_or tables.bounds 0 None) (slice_index_or tables.bounds 1 None) (slice_index_or tables.bounds 2 None) → species ≡ map (species_made whole.step) tables.species.items → IsSound (draft_of tables whole walls species)
+draft_is_sound tables whole walls species kept fits made moved =
     let dims = rw fits.dims at kept.dims in
     let step = rw fits.step at kept.step in
     let most = max_within tables.max_mol kept.max_mol in
     let bounds = tables.bounds in
     let walled = are_walls whole.dims _ _ _ dims.0 dims.1 fits.x fits.y fits.z kept.bounds.x kept.bounds.y kept.bounds.z in
-    let Between : List Wall → Type 0 = λ walls. All (IsPlacing (length tables.species) walls) tables.placings in
+    let count : length species ≡ length tables.species.items = ap length moved ∙ length-map tables.species.items (species_made whole.step) in
+    let Between : List Wall → Type 0 = λ walls. All (IsPlacing (length tables.species.items) walls) tables.placings in
+    let Among : ℕ → Type 0 = λ count. All (IsPlacing count walls) tables.placings in
+    let IsNear : Species → Type 0 = λ species. species.step ≤ 1000000000 in
+    let AreNear : List Species → Type 0 = λ species. All IsNear species in
     record {
       dims_above = dims.0;
       dims_below = dims.1;
-      species = kept.species;
+      species = let P : ℕ → Type 0 = λ count. count ≤ 256 in subst P (sym count) kept.species;
+      difsteps = subst AreNear (sym moved) (All-map IsNear (species_made whole.step) tables.species.items fits.difsteps);
       walls = let P : List Wall → Type 0 = λ walls. AreWalls 0 walls in subst P (sym made) walled.0;
       wall_count = ap length made ∙ walled.1;
-      placings = subst Between (sym made)
-          (All-weaker _ _ (is_placing whole.dims bounds (length tables.species) dims.0 dims.1 fits.x fits.y fits.z) tables.placings (rw fits.dims at kept.placings));
+      placings = subst Among (sym count) (subst Between (sym made)
+          (All-weaker _ _ (is_placing whole.dims bounds (length tables.species.items) dims.0 dims.1 fits.x fits.y fits.z) tables.placings (rw fits.dims at kept.placings)));
       commands = kept.commands;
       acts = kept.acts;
       start = rw fits.start (time_within tables.start kept.start);
@@ -155,11 +161,6 @@ draft_is_sound tables whole walls kept fits made =
       max_below = rw fits.max_mol most.1;
       placed = fits.placed;
     }
-
--- species are known by their names
-named_species : (species : List Species) → species ≡ map (λ name. record { name = name }) (names_of species)
-named_species [] = refl
-named_species (first ∷ species) = ap (λ rest. first ∷ rest) (named_species species)
 
 same_draft : (a b : Draft) → a.dims ≡ b.dims → a.species ≡ b.species → a.walls ≡ b.walls → a.placings ≡ b.placings → a.commands ≡ b.commands → a.start ≡ b.start → a.stop ≡ b.stop → a.step ≡ b.step → a.max_mol ≡ b.max_mol → a.seed ≡ b.seed → a ≡ b
 same_draft a b dims species walls placings commands start stop step max_mol seed =
@@ -181,11 +182,10 @@ value_of : {T : Type 0} (given before : Option T) (value default : T) → given 
 value_of given before value default same there = ap (λ o. unwrap_or o default) (sym there ∙ same)
 
 -- the draft of the tables is what the lines say together
-pub draft_is_content : (tables : Tables) (whole : Whole) (walls : List Wall) (before : List Words) → Holds tables before → Fits tables whole → walls ≡ walls_of whole.dims (slice_index_or tables.bounds 0 None) (slice_index_or tables.bounds 1 None) (slice_index_or tables.bounds 2 None) → draft_of tables whole walls ≡ content_of before
-draft_is_content tables whole walls before holds fits made =
+pub draft_is_content : (tables : Tables) (whole : Whole) (walls : List Wall) (species : List Species) (before : List Words) → Holds tables before → Fits tables whole → walls ≡ walls_of whole.dims (slice_index_or tables.bounds 0 None) (slice_index_or tables.bounds 1 None) (slice_index_or tables.bounds 2 None) → species ≡ map (species_made whole.step) tables.species.items → draft_of tables whole walls species ≡ content_of before
+draft_is_content tables whole walls species before holds fits made moved =
     let dims = value_of tables.dims _ whole.dims 0 holds.dims fits.dims in
-    same_draft (draft_of tables whole walls) (content_of before) dims
-    (named_species tables.species ∙ ap (map (λ name. record { name = name })) holds.species)
+    same_draft (draft_of tables whole walls species) (content_of before) dims (moved ∙ species_are tables before whole.step holds fits.step)
     (made ∙ ap (λ (n : ℕ). walls_of n (slice_index_or tables.bounds 0 None) (slice_index_or tables.bounds 1 None) (slice_index_or tables.bounds 2 None)) dims ∙ rw (holds.bounds.x, holds.bounds.y, holds.bounds.z) refl)
     holds.placings holds.commands
     (fits.start ∙ ap (λ o. unwrap_or o (pos 0)) holds.start)

@@ -9,11 +9,12 @@ use Rattle.smol_types.specs.declared.fault.Kind.TheVariants as kind
 use Rattle.smol_types.specs.declared.fault.ConfigFault.{ConfigFault}
 use Rattle.smol_types.specs.declared.fault.ConfigFault.TheVariants as fault
 use Rattle.smol_config.specs.declared.statement.Statement.{Statement}
-use Rattle.smol_config.specs.declared.statement.Statement.TheVariants.{PassedOver, NotInProfile, Unknown, Dim, Species, TimeStart, TimeStop, TimeStep, MaxMol, RandomSeed, Boundaries, Mol, Cmd}
+use Rattle.smol_config.specs.declared.statement.Statement.TheVariants.{PassedOver, NotInProfile, Unknown, Dim, Species, Difc, Difstep, TimeStart, TimeStop, TimeStep, MaxMol, RandomSeed, Boundaries, Mol, Cmd}
 use Rattle.smol_config.specs.Statement.{statement_of}
 use Rattle.smol_config.specs.Look.{Words, word_at}
 use Rattle.smol_config.specs.Dim.{dim_fault}
 use Rattle.smol_config.specs.Species.{species_fault}
+use Rattle.smol_config.specs.Motion.{difc_fault, difstep_fault}
 use Rattle.smol_config.specs.Times.{time_fault, time_step_fault}
 use Rattle.smol_config.specs.MaxMol.{max_mol_fault}
 use Rattle.smol_config.specs.RandomSeed.{random_seed_fault}
@@ -30,6 +31,8 @@ statement_fault NotInProfile before words = Some kind.NotInProfile
 statement_fault Unknown before words = Some kind.UnknownStatement
 statement_fault Dim before words = dim_fault before words
 statement_fault Species before words = species_fault before words
+statement_fault Difc before words = difc_fault before words
+statement_fault Difstep before words = difstep_fault before words
 statement_fault TimeStart before words = time_fault TimeStart before words
 statement_fault TimeStop before words = time_fault TimeStop before words
 statement_fault TimeStep before words = time_step_fault before words

@@ -6,8 +6,11 @@ use Rattle.smol_types.specs.declared.fault.Kind.{Kind}
 use Rattle.smol_types.specs.declared.fault.Kind.TheVariants.{WrongWordCount, BadTiming, UnknownCommand, UnknownOutlet, TooMany}
 use Rattle.smol_types.specs.declared.command.When.{When}
 use Rattle.smol_types.specs.declared.command.When.TheVariants as «when»
-use Rattle.smol_types.specs.declared.command.Act.TheVariants.{Count}
+use Rattle.smol_types.specs.declared.command.Act.{Act}
+use Rattle.smol_types.specs.declared.command.Act.TheVariants as act
 use Rattle.smol_types.specs.declared.command.Command.{Command}
+use Rattle.smol_config.specs.declared.report.Report.{Report}
+use Rattle.smol_config.specs.declared.report.Report.TheVariants as report
 use Rattle.smol_config.specs.declared.statement.Statement.TheVariants.{Cmd}
 use Rattle.smol_config.specs.Look.{Words, word_at, makes}
 use Rattle.smol_config.specs.Walls.{needs_walls}
@@ -22,11 +25,23 @@ when_in word =
 abbrev pub outlet_in : List ℕ → Result ℕ Kind
 outlet_in word = if bytes_eq word (codes "stdout") then Ok 0 else Err UnknownOutlet
 
+-- what a command reports: `molcount` the counts of the species, `listmols` the molecules
+unfoldable pub report_in : List ℕ → Result Report Kind
+report_in word =
+    if bytes_eq word (codes "molcount")
+    then Ok report.Counts
+    else (if bytes_eq word (codes "listmols") then Ok report.Molecules else Err UnknownCommand)
+
+-- what is done to report it on an outlet
+abbrev pub act_of : Report → ℕ → Act
+act_of report.Counts out = act.Count out
+act_of report.Molecules out = act.List out
+
 -- the command of a line
 abbrev pub command_value : Words → Command
 command_value words = record {
   «when» = result_unwrap_or (when_in (word_at words 1)) «when».Before;
-  act = Count (result_unwrap_or (outlet_in (word_at words 3)) 0);
+  act = act_of (result_unwrap_or (report_in (word_at words 2)) report.Counts) (result_unwrap_or (outlet_in (word_at words 3)) 0);
 }
 
 -- the commands that the lines before give, in order
@@ -41,7 +56,7 @@ cmd_fault before words =
     ∷ unless (nat_le 2 (length words)) WrongWordCount
     ∷ result_err (when_in (word_at words 1))
     ∷ unless (nat_le 3 (length words)) WrongWordCount
-    ∷ unless (bytes_eq (word_at words 2) (codes "molcount")) UnknownCommand
+    ∷ result_err (report_in (word_at words 2))
     ∷ word_count 4 words
     ∷ result_err (outlet_in (word_at words 3))
     ∷ unless (nat_lt (length (commands_of before)) 256) TooMany

@@ -6,6 +6,7 @@ pub mod Names
 pub mod Dim
 pub mod Species
 pub mod SpeciesWord
+pub mod Motion
 pub mod Times
 pub mod MaxMol
 pub mod RandomSeed

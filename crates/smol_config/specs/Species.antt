@@ -3,7 +3,7 @@ use Rattle.std.specs.Prelude.{ℕ, ◌+◌, not, nat_le, List, [], ◌∷◌, �
 use Rattle.std.specs.Str.{bytes_eq}
 use Rattle.smol_types.specs.declared.fault.Kind.{Kind}
 use Rattle.smol_types.specs.declared.fault.Kind.TheVariants.{NotInProfile, RepeatedName, WrongWordCount, TooMany}
-use Rattle.smol_types.specs.declared.species.Species.{Species as TheSpecies}
+use Rattle.smol_config.specs.declared.named.Named.{Named}
 use Rattle.smol_config.specs.declared.statement.Statement.TheVariants.{Species}
 use Rattle.smol_config.specs.Look.{Words, makes}
 use Rattle.smol_config.specs.Names.{is_name}
@@ -15,8 +15,8 @@ species_of [] = []
 species_of (line ∷ before) = if makes Species line then species_of before ++ drop 1 line else species_of before
 
 -- the names of species
-abbrev pub names_of : List TheSpecies → List (List ℕ)
-names_of species = map (λ (species : TheSpecies). species.name) species
+abbrev pub names_of : List Named → List (List ℕ)
+names_of species = map (λ (species : Named). species.name) species
 
 -- the fault of a name behind these names
 abbrev pub name_fault : List (List ℕ) → List ℕ → Option Kind

@@ -3,13 +3,15 @@ use Rattle.std.specs.Prelude.{ℕ, Bool, ◌==◌, List, [], ◌∷◌, if◌the
 use Rattle.std.specs.List.{list_any}
 use Rattle.std.specs.Str.{bytes_eq}
 use Rattle.smol_config.specs.declared.statement.Statement.{Statement}
-use Rattle.smol_config.specs.declared.statement.Statement.TheVariants.{PassedOver, NotInProfile, Unknown, Dim, Species, TimeStart, TimeStop, TimeStep, MaxMol, RandomSeed, Boundaries, Mol, Cmd}
+use Rattle.smol_config.specs.declared.statement.Statement.TheVariants.{PassedOver, NotInProfile, Unknown, Dim, Species, Difc, Difstep, TimeStart, TimeStop, TimeStep, MaxMol, RandomSeed, Boundaries, Mol, Cmd}
 
 -- the words of the statements that are read
 abbrev pub built : List (List ℕ × Statement)
 built =
     (codes "dim", Dim)
     ∷ (codes "species", Species)
+    ∷ (codes "difc", Difc)
+    ∷ (codes "difstep", Difstep)
     ∷ (codes "time_start", TimeStart)
     ∷ (codes "time_stop", TimeStop)
     ∷ (codes "time_step", TimeStep)
@@ -110,14 +112,16 @@ place_of NotInProfile = 1
 place_of Unknown = 2
 place_of Dim = 3
 place_of Species = 4
-place_of TimeStart = 5
-place_of TimeStop = 6
-place_of TimeStep = 7
-place_of MaxMol = 8
-place_of RandomSeed = 9
-place_of Boundaries = 10
-place_of Mol = 11
-place_of Cmd = 12
+place_of Difc = 5
+place_of Difstep = 6
+place_of TimeStart = 7
+place_of TimeStop = 8
+place_of TimeStep = 9
+place_of MaxMol = 10
+place_of RandomSeed = 11
+place_of Boundaries = 12
+place_of Mol = 13
+place_of Cmd = 14
 
 abbrev pub same_statement : Statement → Statement → Bool
 same_statement a b = place_of a == place_of b

@@ -11,6 +11,7 @@ use Rattle.smol_config.specs.declared.tables.Tables.{Tables}
 use Rattle.smol_config.specs.Look.{Words}
 use Rattle.smol_config.specs.Dim.{dims_of}
 use Rattle.smol_config.specs.Species.{names_of, species_of}
+use Rattle.smol_config.specs.Motion.{motion_at, motion_of}
 use Rattle.smol_config.specs.Times.{time_of}
 use Rattle.smol_config.specs.MaxMol.{max_mol_of}
 use Rattle.smol_config.specs.RandomSeed.{seed_of}
@@ -22,7 +23,8 @@ use Rattle.smol_config.specs.Kept.{AreSound, IsPlaced}
 -- each table is the look-up over these lines, the nearest first
 pub record Holds (tables : Tables) (before : List Words) : Type 0 where
   pub dims : tables.dims ≡ dims_of before
-  pub species : names_of tables.species ≡ species_of before
+  pub species : names_of tables.species.items ≡ species_of before
+  pub motions : (number : ℕ) → motion_at tables.species.items number ≡ motion_of number before
   pub start : tables.start ≡ time_of TimeStart before
   pub stop : tables.stop ≡ time_of TimeStop before
   pub step : tables.step ≡ time_of TimeStep before
@@ -35,13 +37,13 @@ pub record Holds (tables : Tables) (before : List Words) : Type 0 where
 -- each table is within the limits of what it holds
 pub record IsKept (tables : Tables) : Type 0 where
   pub dims : IfSome tables.dims (λ dims. (1 ≤ dims) × (dims ≤ 3))
-  pub species : length tables.species ≤ 256
+  pub species : length tables.species.items ≤ 256
   pub start : IfSome tables.start (λ time. unsigned_abs time ≤ 1000000000000000000)
   pub stop : IfSome tables.stop (λ time. unsigned_abs time ≤ 1000000000000000000)
   pub step : IfSome tables.step (λ time. (unsigned_abs time ≤ 1000000000000000000) × (pos 0 <ℤ time))
   pub max_mol : IfSome tables.max_mol (λ count. (1 ≤ count) × (count ≤ 1000000))
   pub bounds : AreSound tables.bounds
-  pub placings : All (IsPlaced tables.dims tables.bounds (length tables.species)) tables.placings
+  pub placings : All (IsPlaced tables.dims tables.bounds (length tables.species.items)) tables.placings
   pub commands : length tables.commands ≤ 256
   pub acts : All (λ (command : Command). IsAct command.act) tables.commands
 

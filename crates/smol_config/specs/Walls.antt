@@ -1,5 +1,5 @@
 -- The walls of an axis: what a line gives, and what the lines before give.
-use Rattle.std.specs.Prelude.{◌≡◌, ℕ, ◌||◌, ◌==◌, Bool, false, ◌&&◌, nat_lt, nat_le, ℤ, pos, negsuc, List, [], ◌∷◌, length, Option, None, Some, is_some, Result, Ok, Err, if◌then◌else◌, codes, slice_index_or, unwrap_or}
+use Rattle.std.specs.Prelude.{◌≡◌, ℕ, ◌||◌, ◌==◌, Bool, false, true, ◌&&◌, nat_lt, nat_le, ℤ, pos, negsuc, List, [], ◌∷◌, length, Option, None, Some, is_some, Result, Ok, Err, if◌then◌else◌, codes, slice_index_or, unwrap_or}
 use Rattle.std.specs.Result.{result_unwrap_or}
 use Rattle.std.specs.Str.{bytes_eq}
 use Rattle.smol_types.specs.declared.fault.Kind.{Kind}
@@ -40,6 +40,13 @@ letter_in word =
     if bytes_eq word (codes "r")
     then Ok R
     else (if bytes_eq word (codes "p") then Ok P else (if bytes_eq word (codes "a") then Ok A else (if bytes_eq word (codes "t") then Ok T else Err BadAction)))
+
+-- walls of this letter let molecules through
+abbrev pub lets_through : Letter → Bool
+lets_through R = false
+lets_through P = false
+lets_through A = false
+lets_through T = true
 
 -- the letter of a line, which is `t` where it has none
 abbrev pub line_letter : Words → Result Letter Kind

@@ -5,11 +5,12 @@ ghost use Rattle.smol_types.specs.Sound.{IsAct};
 ghost use Rattle.smol_config.specs.Look.{Words};
 ghost use Rattle.smol_config.specs.Dim.{dims_of};
 ghost use Rattle.smol_config.specs.Walls.{AreBounds};
-ghost use Rattle.smol_config.specs.Cmd.{cmd_fault, command_value, commands_of, outlet_in, when_in};
+ghost use Rattle.smol_config.specs.Cmd.{act_of, cmd_fault, command_value, commands_of, outlet_in, report_in, when_in};
 
 use crate::boundaries::needs_walls;
 use crate::bounds::Bounds;
 use crate::checks::{unless, word_count};
+use crate::report::Report;
 use crate::words::{spells, word_at};
 use smol_text::LineWords;
 use smol_types::{Act, Command, Kind, When};
@@ -41,6 +42,29 @@ fn outlet_in(word: &[u8]) -> Result<u32, Kind>
     }
 }
 
+#[tactic(auto, unfolding(crate::specs::Cmd::report_in))]
+fn report_in(word: &[u8]) -> Result<Report, Kind>
+    ensures { result ≡ report_in word.now }
+{
+    if spells(word, "molcount") {
+        Ok(Report::Counts)
+    } else if spells(word, "listmols") {
+        Ok(Report::Molecules)
+    } else {
+        Err(Kind::UnknownCommand)
+    }
+}
+
+// What is done to report it on an outlet.
+fn act_of(report: Report, out: u32) -> Act
+    ensures { result ≡ act_of report out }
+{
+    match report {
+        Report::Counts => Act::Count { out },
+        Report::Molecules => Act::List { out },
+    }
+}
+
 /// The command that a line gives, by what the lines before give.
 #[tactic(auto, unfolding(crate::specs::Cmd::cmd_fault))]
 pub fn judge(
@@ -59,12 +83,12 @@ pub fn judge(
     unless(words.len() >= 2, Kind::WrongWordCount)?;
     let when = when_in(word_at(words, 1))?;
     unless(words.len() >= 3, Kind::WrongWordCount)?;
-    unless(spells(word_at(words, 2), "molcount"), Kind::UnknownCommand)?;
+    let report = report_in(word_at(words, 2))?;
     word_count(4, words)?;
     let out = outlet_in(word_at(words, 3))?;
     unless(commands.len() < MOST_COMMANDS, Kind::TooMany)?;
     Ok(Command {
         when,
-        act: Act::Count { out },
+        act: act_of(report, out),
     })
 }

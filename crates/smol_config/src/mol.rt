@@ -11,11 +11,12 @@ ghost use Rattle.smol_config.specs.Kept.{AreSound, IsBounds, IsGiven, IsPlaced};
 use crate::boundaries::{micros_in, needs_walls};
 use crate::bounds::Bounds;
 use crate::checks::word_count;
+use crate::named::Named;
 use crate::numbers::count_in;
 use crate::species_word::species_in;
 use crate::words::{spells, word_at};
 use smol_text::LineWords;
-use smol_types::{Given, Kind, Placing, Species};
+use smol_types::{Given, Kind, Placing};
 
 // A coordinate in micros, which lies between the walls.
 fn coordinate_in(bounds: &Bounds, word: &[u8]) -> Result<i64, Kind>
@@ -81,7 +82,7 @@ fn given_at(
 pub fn judge(
     dims: Option<u8>,
     bounds: &[Option<Bounds>; 3],
-    species: &[Species],
+    species: &[Named],
     words: &LineWords<'_>,
 ) -> Result<Placing, Kind>
     requires few { length species.now ≤ 256 }

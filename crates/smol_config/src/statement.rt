@@ -82,6 +82,8 @@ pub enum Statement {
     Unknown,
     Dim,
     Species,
+    Difc,
+    Difstep,
     TimeStart,
     TimeStop,
     TimeStep,
@@ -123,6 +125,10 @@ impl Statement {
             Statement::Dim
         } else if spells(word, "species") {
             Statement::Species
+        } else if spells(word, "difc") {
+            Statement::Difc
+        } else if spells(word, "difstep") {
+            Statement::Difstep
         } else if spells(word, "time_start") {
             Statement::TimeStart
         } else if spells(word, "time_stop") {

@@ -7,19 +7,20 @@ ghost use Rattle.smol_config.specs.Statement.{statement_of};
 ghost use Rattle.smol_config.specs.Look.{Words, word_at};
 
 use crate::bounds::Bounds;
+use crate::named::Named;
 use crate::refusal::Refusal;
 use crate::statement::Statement;
 use crate::words::word_at;
-use crate::{boundaries, cmd, dim, max_mol, mol, random_seed, species, times};
+use crate::{boundaries, cmd, dim, max_mol, mol, motion, random_seed, species, times};
 use smol_text::LineWords;
-use smol_types::{Command, Items, Kind, Placing, Species};
+use smol_types::{Command, Items, Kind, Placing};
 use std::alloc::Global;
 
 /// What the lines read so far give, a quantity each.
 #[derive(Debug, Drop)]
 pub struct Tables {
     pub dims: Option<u8>,
-    pub species: Items<Species>,
+    pub species: Vec<Named>,
     pub start: Option<i64>,
     pub stop: Option<i64>,
     pub step: Option<i64>,
@@ -33,6 +34,7 @@ pub struct Tables {
 impl Tables {
     ghost use Rattle.smol_config.specs.Dim.{dim_fault};
     ghost use Rattle.smol_config.specs.Species.{species_fault};
+    ghost use Rattle.smol_config.specs.Motion.{difc_fault, difstep_fault};
     ghost use Rattle.smol_config.specs.Times.{time_fault, time_step_fault};
     ghost use Rattle.smol_config.specs.MaxMol.{max_mol_fault};
     ghost use Rattle.smol_config.specs.RandomSeed.{random_seed_fault};
@@ -49,7 +51,7 @@ impl Tables {
     {
         Tables {
             dims: None,
-            species: Items::new(alloc),
+            species: Vec::new(alloc),
             start: None,
             stop: None,
             step: None,
@@ -82,6 +84,32 @@ impl Tables {
         ensures refused { (kind : TheKind) (before : List Words) → result ≡ Err (At kind) → Holds self.old before → species_fault before words.now ≡ Some kind }
     {
         species::read(alloc, &mut self.species, words)
+    }
+
+    fn read_difc(&mut self, words: &LineWords<'_>) -> Result<(), Refusal>
+        requires kept { IsKept self.old }
+        requires made { statement_of (word_at words.now 0) ≡ statement.Difc }
+        ensures kept { OnOk result (IsKept self.new) }
+        ensures accepted { OnOk result ((before : List Words) → Holds self.old before → difc_fault before words.now ≡ None) }
+        ensures held { OnOk result ((before : List Words) → Holds self.old before → Holds self.new (words.now ∷ before)) }
+        ensures refused { (kind : TheKind) (before : List Words) → result ≡ Err (At kind) → Holds self.old before → difc_fault before words.now ≡ Some kind }
+    {
+        let (chosen, motion) = motion::judge_difc(self.species.as_slice(), words)?;
+        motion::set_motion(self.species.as_mut_slice(), chosen, motion);
+        Ok(())
+    }
+
+    fn read_difstep(&mut self, words: &LineWords<'_>) -> Result<(), Refusal>
+        requires kept { IsKept self.old }
+        requires made { statement_of (word_at words.now 0) ≡ statement.Difstep }
+        ensures kept { OnOk result (IsKept self.new) }
+        ensures accepted { OnOk result ((before : List Words) → Holds self.old before → difstep_fault before words.now ≡ None) }
+        ensures held { OnOk result ((before : List Words) → Holds self.old before → Holds self.new (words.now ∷ before)) }
+        ensures refused { (kind : TheKind) (before : List Words) → result ≡ Err (At kind) → Holds self.old before → difstep_fault before words.now ≡ Some kind }
+    {
+        let (chosen, motion) = motion::judge_difstep(self.species.as_slice(), words)?;
+        motion::set_motion(self.species.as_mut_slice(), chosen, motion);
+        Ok(())
     }
 
     fn read_time_start(&mut self, words: &LineWords<'_>) -> Result<(), Refusal>
@@ -199,6 +227,8 @@ impl Tables {
             Statement::Unknown => Err(Refusal::At(Kind::UnknownStatement)),
             Statement::Dim => self.read_dim(words),
             Statement::Species => self.read_species(alloc, words),
+            Statement::Difc => self.read_difc(words),
+            Statement::Difstep => self.read_difstep(words),
             Statement::TimeStart => self.read_time_start(words),
             Statement::TimeStop => self.read_time_stop(words),
             Statement::TimeStep => self.read_time_step(words),

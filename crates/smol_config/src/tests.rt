@@ -9,7 +9,7 @@ const BASE: &str =
     "dim 3\nspecies A\nboundaries x 0 100 r\nboundaries y 0 100 r\nboundaries z 0 100 r\ntime_start 0\ntime_stop 1\ntime_step 1\n";
 
 // Lines that follow the eight of BASE, and the line and the kind of their fault.
-const BEHIND_BASE: [(&str, u32, Kind); 85] = [
+const BEHIND_BASE: [(&str, u32, Kind); 78] = [
     // The first word.
     ("bogus", 9, Kind::UnknownStatement),
     ("*/", 9, Kind::UnknownStatement),
@@ -114,14 +114,6 @@ const BEHIND_BASE: [(&str, u32, Kind); 85] = [
     ("mol 1 A 50 100.000001 x", 9, Kind::OutsideWalls),
     ("mol 1 A 50 50 101", 9, Kind::OutsideWalls),
     ("mol 1 A 0 50 100\nbogus", 10, Kind::UnknownStatement),
-    // `cmd`.
-    ("cmd", 9, Kind::WrongWordCount),
-    ("cmd B", 9, Kind::BadTiming),
-    ("cmd b", 9, Kind::WrongWordCount),
-    ("cmd b bogus", 9, Kind::UnknownCommand),
-    ("cmd b molcount", 9, Kind::WrongWordCount),
-    ("cmd b molcount nofile x", 9, Kind::WrongWordCount),
-    ("cmd a molcount nofile", 9, Kind::UnknownOutlet),
     // The whole file.
     ("mol 100001 A 50 50 50", 0, Kind::TooMany),
     (
@@ -131,8 +123,58 @@ const BEHIND_BASE: [(&str, u32, Kind); 85] = [
     ),
 ];
 
+// The same of lines about commands.
+const COMMANDS_BEHIND_BASE: [(&str, u32, Kind); 10] = [
+    ("cmd", 9, Kind::WrongWordCount),
+    ("cmd B", 9, Kind::BadTiming),
+    ("cmd b", 9, Kind::WrongWordCount),
+    ("cmd b bogus", 9, Kind::UnknownCommand),
+    ("cmd b molcount", 9, Kind::WrongWordCount),
+    ("cmd b molcount nofile x", 9, Kind::WrongWordCount),
+    ("cmd a molcount nofile", 9, Kind::UnknownOutlet),
+    ("cmd b listmols", 9, Kind::WrongWordCount),
+    ("cmd b listmols nofile", 9, Kind::UnknownOutlet),
+    ("cmd b molcounts stdout", 9, Kind::UnknownCommand),
+];
+
+// The same of lines about motion.
+const MOTIONS_BEHIND_BASE: [(&str, u32, Kind); 27] = [
+    ("difc", 9, Kind::WrongWordCount),
+    ("difc A", 9, Kind::WrongWordCount),
+    ("difc A 1 1", 9, Kind::WrongWordCount),
+    ("difc B x", 9, Kind::UnknownName),
+    ("difc A x", 9, Kind::NotNumber),
+    ("difc A 1e-10", 9, Kind::TooFine),
+    ("difc A 1e-12", 9, Kind::TooFine),
+    ("difc A -1", 9, Kind::OutOfRange),
+    ("difc A 1000000001", 9, Kind::OutOfRange),
+    ("difc A 1000000000\ndifc all(soln) 1", 10, Kind::UnknownName),
+    ("difstep", 9, Kind::WrongWordCount),
+    ("difstep A(front) x", 9, Kind::NotInProfile),
+    ("difstep all(soln) 1", 9, Kind::UnknownName),
+    ("difstep A 1x", 9, Kind::NotNumber),
+    ("difstep A 1e-7", 9, Kind::TooFine),
+    ("difstep A -1", 9, Kind::OutOfRange),
+    ("difstep A 1000.000001", 9, Kind::OutOfRange),
+    // The whole file.
+    ("difc A 1000000000", 0, Kind::OutOfRange),
+    ("difc A 500000.001000001", 0, Kind::OutOfRange),
+    (
+        "mol 100001 A 50 50 50\ndifc A 1000000000",
+        0,
+        Kind::OutOfRange,
+    ),
+    ("mol 100001 A 50 50 50\ndifstep A 1", 0, Kind::TooMany),
+    ("difc A 500000.001", 0, Kind::NotInProfile),
+    ("difc A(all) 1e-9", 0, Kind::NotInProfile),
+    ("difstep A 1000", 0, Kind::NotInProfile),
+    ("difstep all 1e-6", 0, Kind::NotInProfile),
+    ("species B\ndifstep B 1", 0, Kind::NotInProfile),
+    ("difstep A 0\ndifstep A(soln) 1", 0, Kind::NotInProfile),
+];
+
 // Whole texts, and the line and the kind of their fault.
-const TEXTS: [(&str, u32, Kind); 51] = [
+const TEXTS: [(&str, u32, Kind); 53] = [
     // Bytes and comments.
     ("bogus\n\ndim 3\0", 3, Kind::BadByte),
     ("graphics \u{7f}\n/*", 1, Kind::BadByte),
@@ -226,6 +268,45 @@ const TEXTS: [(&str, u32, Kind); 51] = [
         0,
         Kind::TooMany,
     ),
+    // Species that move, and walls that stop them.
+    (
+        "dim 1\nspecies A\nboundaries x 0 1 r\ntime_stop 0\ntime_step 1e-9\ndifc A 0.0005",
+        0,
+        Kind::NotInProfile,
+    ),
+    (
+        "dim 2\nspecies A\nboundaries x 0 1\nboundaries y 0 1 p\ntime_stop 0\ntime_step 1\ndifstep A 1",
+        0,
+        Kind::NotInProfile,
+    ),
+];
+
+// Lines that follow the eight of BASE and have no fault.
+const ACCEPTED_BEHIND_BASE: [&str; 6] = [
+    "",
+    "difstep A 1\ndifstep A 0",
+    "difc A 1000000000\ndifc A 0",
+    "difc all 1000000000\ndifstep A(all) 0",
+    "difstep A 1000\ndifc A(solution) 0\nspecies B",
+    "cmd b listmols stdout\ncmd a listmols stdout",
+];
+
+// A configuration with walls that let molecules through, without species.
+const OPEN: &str = "dim 1\nboundaries x 0 100 t\ntime_stop 1\ntime_step 0.01\n";
+
+// Lines that follow OPEN and name two species, and the difsteps of these in micros.
+const DIFSTEPS: [(&str, u32, u32); 11] = [
+    ("species A B", 0, 0),
+    ("species A B\ndifc A 3", 244_948, 0),
+    ("species A B\ndifc B(soln) 3", 0, 244_948),
+    ("species A B\ndifc A 1e-9", 4, 0),
+    ("species A B\ndifstep A 0.5", 500_000, 0),
+    ("species A B\ndifstep B 1000", 0, 1_000_000_000),
+    ("species A B\ndifc all 3\ndifstep B 0.5", 244_948, 500_000),
+    ("species A B\ndifstep all 0.5\ndifc B 3", 500_000, 244_948),
+    ("species A B\ndifstep A 0.5\ndifstep A 1", 1_000_000, 0),
+    ("difc all 3\nspecies A B", 0, 0),
+    ("species A\ndifc all 3\nspecies B", 244_948, 0),
 ];
 
 // The first words of lines about display.
@@ -292,11 +373,47 @@ fn lines_behind_the_base_are_refused(rt: HostRuntime) -> Result<(), Fail> {
 }
 
 #[test]
+fn commands_behind_the_base_are_refused(rt: HostRuntime) -> Result<(), Fail> {
+    for (lines, line, kind) in COMMANDS_BEHIND_BASE {
+        let text = behind_base(rt.alloc(), lines)?;
+        let fault = fault_of(rt.alloc(), &text);
+        assert_eq!(rt; fault, Some(ConfigFault::At { line, kind }), "{lines}");
+    }
+    Ok(())
+}
+
+#[test]
+fn motions_behind_the_base_are_refused(rt: HostRuntime) -> Result<(), Fail> {
+    for (lines, line, kind) in MOTIONS_BEHIND_BASE {
+        let text = behind_base(rt.alloc(), lines)?;
+        let fault = fault_of(rt.alloc(), &text);
+        assert_eq!(rt; fault, Some(ConfigFault::At { line, kind }), "{lines}");
+    }
+    Ok(())
+}
+
+#[test]
 fn texts_are_refused(rt: HostRuntime) {
     for (text, line, kind) in TEXTS {
         let fault = fault_of(rt.alloc(), text.as_bytes());
         assert_eq!(rt; fault, Some(ConfigFault::At { line, kind }), "{text}");
     }
+}
+
+#[test]
+fn lines_behind_the_base_are_accepted(rt: HostRuntime) -> Result<(), Fail> {
+    for lines in ACCEPTED_BEHIND_BASE {
+        let text = behind_base(rt.alloc(), lines)?;
+        assert_eq!(rt; fault_of(rt.alloc(), &text), None, "{lines}");
+    }
+    Ok(())
+}
+
+#[test]
+fn species_that_round_to_rest_are_accepted(rt: HostRuntime) {
+    let text =
+        "difc all 3\nspecies A\ndim 1\nboundaries x 0 1 r\ntime_stop 0\ntime_step 1e-9\ndifc A 0.000499999";
+    assert_eq!(rt; fault_of(rt.alloc(), text.as_bytes()), None);
 }
 
 #[test]
@@ -382,7 +499,7 @@ fn species_end_at_256(rt: HostRuntime) -> Result<(), Fail> {
 #[test]
 fn a_configuration_says_what_its_lines_say(rt: HostRuntime) -> Result<(), Fail> {
     let text =
-        b"dim 2\nspecies A B\nboundaries x -10 100 r\nboundaries 1 0 50\nspecies C_1\nmol 3 B(soln) 100 0\nmol 0 C_1 -10 1e-6\ncmd a molcount stdout\ncmd b molcount stdout\ntime_stop 0.5\ntime_step 1e-6\nrandom_seed 0";
+        b"dim 2\nspecies A B\nboundaries x -10 100 r\nboundaries 1 0 50\nspecies C_1\nmol 3 B(soln) 100 0\nmol 0 C_1 -10 1e-6\ncmd a molcount stdout\ncmd b molcount stdout\ncmd b listmols stdout\ntime_stop 0.5\ntime_step 1e-6\nrandom_seed 0";
     let config = read_config(rt.alloc(), text)?;
     assert_eq!(rt; config.dims(), 2);
     assert_eq!(rt; config.start(), 0);
@@ -404,6 +521,10 @@ fn a_configuration_says_what_its_lines_say(rt: HostRuntime) -> Result<(), Fail> 
         Command {
             when: When::Before,
             act: count,
+        },
+        Command {
+            when: When::Before,
+            act: Act::List { out: 0 },
         },
     ];
     assert_eq!(rt; config.commands(), commands.as_slice());
@@ -470,5 +591,19 @@ fn letters_say_what_walls_do(rt: HostRuntime) -> Result<(), Fail> {
         wall(2, 2_000_000, true, Letter::T),
     ];
     assert_eq!(rt; config.walls(), walls.as_slice());
+    Ok(())
+}
+
+#[test]
+fn species_move_as_the_last_line_says(rt: HostRuntime) -> Result<(), Fail> {
+    for (lines, a, b) in DIFSTEPS {
+        let mut text = Vec::from_slice(rt.alloc(), OPEN.as_bytes())?;
+        text.extend_from_slice(lines.as_bytes())?;
+        let config = read_config(rt.alloc(), &text)?;
+        let species = config.species();
+        assert_eq!(rt; species.len(), 2);
+        assert_eq!(rt; species[0].step, a, "{lines}");
+        assert_eq!(rt; species[1].step, b, "{lines}");
+    }
     Ok(())
 }

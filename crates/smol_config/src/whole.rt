@@ -1,21 +1,27 @@
 //! The tests of the whole file, and what its lines make together.
-ghost use Rattle.std.specs.Prelude.{◌≡◌, ◌<◌, ◌++◌, nat_le, Some, Err, List, IfOk, IfSome, OnOk, IsSome, sum_by, slice_index_or, None};
+ghost use Rattle.std.specs.Prelude.{◌≡◌, ◌<◌, ◌≤◌, ◌||◌, map, All, ◌++◌, nat_le, Some, Err, List, IfOk, IfSome, OnOk, IsSome, sum_by, slice_index_or, None};
+ghost use Rattle.std.specs.List.{list_all};
 ghost use Rattle.std.specs.Result.{result_err};
 ghost use Rattle.smol_types.specs.declared.fault.Kind.{Kind as TheKind};
 ghost use Rattle.smol_types.specs.Sound.{placed_by};
 ghost use Rattle.smol_config.specs.declared.refusal.Refusal.TheVariants.{At};
+ghost use Rattle.smol_config.specs.declared.named.Named.{Named as TheNamed};
 ghost use Rattle.smol_config.specs.Look.{Words};
+ghost use Rattle.smol_config.specs.Motion.{difstep_of};
+ghost use Rattle.smol_config.specs.Walls.{lets_through};
 ghost use Rattle.smol_config.specs.Content.{content_of, walls_in, walls_of};
 ghost use Rattle.smol_config.specs.Kept.{AreSound, IsBounds};
 ghost use Rattle.smol_config.specs.Tables.{Holds, IsKept};
-ghost use Rattle.smol_config.specs.Whole.{whole_fault, Fits};
+ghost use Rattle.smol_config.specs.Whole.{Fits, has_difstep, is_open, species_made, stands_still, whole_fault};
 
 use crate::boundaries::is_walled;
 use crate::bounds::Bounds;
 use crate::checks::unless;
+use crate::motion::{MOST_DIFSTEP, difstep_of};
+use crate::named::Named;
 use crate::refusal::Refusal;
 use crate::tables::Tables;
-use smol_types::{Config, Draft, Items, Kind, Need, Placing, Wall, last_step};
+use smol_types::{Config, Draft, Items, Kind, Letter, Need, Placing, Species, Wall, last_step};
 use std::alloc::{AllocError, Global};
 
 /// How many steps a run may make.
@@ -57,6 +63,55 @@ fn are_few(placings: &[Placing], most: u32) -> bool
     true
 }
 
+// Whether each difstep is within the limit, where a step takes this time.
+fn have_difsteps(species: &[Named], time: i64) -> bool
+    ensures { result ≡ list_all (λ species. has_difstep (species_made time species)) species.now }
+{
+    species.iter().all(|species| difstep_of(species.motion, time) <= u64::from(MOST_DIFSTEP))
+}
+
+// Whether no species moves, where a step takes this time.
+fn stand_still(species: &[Named], time: i64) -> bool
+    ensures { result ≡ list_all (λ species. stands_still (species_made time species)) species.now }
+{
+    species
+        .iter()
+        .all(|species| difstep_of(species.motion, time) == 0)
+}
+
+// Whether walls of this letter let molecules through.
+fn lets_through(letter: Letter) -> bool
+    ensures { result ≡ lets_through letter }
+{
+    letter == Letter::T
+}
+
+// Whether the walls of an axis let molecules through, where it is in use.
+fn is_open(dims: u8, axis: u8, bounds: &Option<Bounds>) -> bool
+    ensures { result ≡ list_all is_open (walls_in dims axis bounds.now) }
+{
+    match bounds {
+        Some(bounds) if axis < dims => lets_through(bounds.letter),
+        _ => true,
+    }
+}
+
+// Whether the walls of all axes in use let molecules through.
+#[tactic(auto, unfolding(crate::specs::Content::walls_of))]
+fn are_open(dims: u8, bounds: &[Option<Bounds>; 3]) -> bool
+    ensures { result ≡ list_all is_open (walls_of dims (slice_index_or bounds.now 0 None) (slice_index_or bounds.now 1 None) (slice_index_or bounds.now 2 None)) }
+{
+    is_open(dims, 0, &bounds[0]) && is_open(dims, 1, &bounds[1]) && is_open(dims, 2, &bounds[2])
+}
+
+// Whether no wall has anything to do: no species moves, or the walls let molecules through.
+fn are_walls_idle(species: &[Named], time: i64, dims: u8, bounds: &[Option<Bounds>; 3]) -> bool
+    ensures { result ≡ (list_all (λ species. stands_still (species_made time species)) species.now
+        || list_all is_open (walls_of dims (slice_index_or bounds.now 0 None) (slice_index_or bounds.now 1 None) (slice_index_or bounds.now 2 None))) }
+{
+    stand_still(species, time) || are_open(dims, bounds)
+}
+
 // The tests of the whole file.
 #[tactic(auto, unfolding(crate::specs::Whole::whole_fault))]
 fn judge(tables: &Tables) -> Result<Whole, Kind>
@@ -81,8 +136,12 @@ fn judge(tables: &Tables) -> Result<Whole, Kind>
     };
     let start = tables.start.unwrap_or(0);
     unless(last_step(start, stop, step) <= MOST_STEPS, Kind::TooMany)?;
+    let species = tables.species.as_slice();
+    unless(have_difsteps(species, step), Kind::OutOfRange)?;
     let max_mol = tables.max_mol.unwrap_or(DEFAULT_MAX_MOL);
     unless(are_few(tables.placings.as_slice(), max_mol), Kind::TooMany)?;
+    let idle = are_walls_idle(species, step, dims, &tables.bounds);
+    unless(idle, Kind::NotInProfile)?;
     Ok(Whole {
         dims,
         start,
@@ -142,6 +201,29 @@ fn walls_of(
     Ok(walls)
 }
 
+// A species with its difstep, where a step takes this time.
+fn with_difstep(species: Named, time: i64) -> Species
+    requires { difstep_of time species.motion ≤ 1000000000 }
+    ensures { result ≡ species_made time species }
+{
+    Species {
+        name: species.name,
+        step: difstep_of(species.motion, time) as u32,
+    }
+}
+
+// All species with their difsteps.
+fn make_species(alloc: Global, species: Vec<Named>, time: i64) -> Result<Items<Species>, AllocError>
+    requires { All (λ (species : TheNamed). difstep_of time species.motion ≤ 1000000000) species.items }
+    ensures { IfOk result (λ made. made ≡ map (species_made time) species.items) }
+{
+    let species = species
+        .into_iter()
+        .map(|species| with_difstep(species, time))
+        .collect(alloc)?;
+    Ok(Items::from_vec(species))
+}
+
 /// What the lines read so far make together, where the whole file passes its tests.
 pub fn finish(alloc: Global, tables: Tables) -> Result<Config, Refusal>
     requires { IsKept tables }
@@ -151,9 +233,10 @@ pub fn finish(alloc: Global, tables: Tables) -> Result<Config, Refusal>
 {
     let whole = judge(&tables)?;
     let walls = walls_of(alloc, whole.dims, &tables.bounds)?;
+    let species = make_species(alloc, tables.species, whole.step)?;
     Ok(Config::of(Draft {
         dims: whole.dims,
-        species: tables.species,
+        species,
         walls,
         placings: tables.placings,
         commands: tables.commands,

@@ -11,6 +11,14 @@ pub returns-in-Species-clause-refused : goal.returns-in-Species-clause-refused
 returns-in-Species-clause-refused c kind before failed holds =
     line_fault_is statement.Species before c.args.words.now (rw c.word_at.ensures at c.in-Species.ensures) ∙ c.read_species.ensures.refused kind before failed holds
 
+pub returns-in-Difc-clause-refused : goal.returns-in-Difc-clause-refused
+returns-in-Difc-clause-refused c kind before failed holds =
+    line_fault_is statement.Difc before c.args.words.now (rw c.word_at.ensures at c.in-Difc.ensures) ∙ c.read_difc.ensures.refused kind before failed holds
+
+pub returns-in-Difstep-clause-refused : goal.returns-in-Difstep-clause-refused
+returns-in-Difstep-clause-refused c kind before failed holds =
+    line_fault_is statement.Difstep before c.args.words.now (rw c.word_at.ensures at c.in-Difstep.ensures) ∙ c.read_difstep.ensures.refused kind before failed holds
+
 pub returns-in-TimeStart-clause-refused : goal.returns-in-TimeStart-clause-refused
 returns-in-TimeStart-clause-refused c kind before failed holds =
     line_fault_is statement.TimeStart before c.args.words.now (rw c.word_at.ensures at c.in-TimeStart.ensures) ∙ c.read_time_start.ensures.refused kind before failed holds

@@ -14,7 +14,7 @@ returns-clause-kept c =
       step = old.step;
       max_mol = old.max_mol;
       bounds = old.bounds;
-      placings = all_placed_with_dims tables.bounds (length tables.species) (Some c.in_ok-judge.field-0) tables.placings (rw c.in_ok-judge.ensures.fresh at old.placings);
+      placings = all_placed_with_dims tables.bounds (length tables.species.items) (Some c.in_ok-judge.field-0) tables.placings (rw c.in_ok-judge.ensures.fresh at old.placings);
       commands = old.commands;
       acts = old.acts;
     }

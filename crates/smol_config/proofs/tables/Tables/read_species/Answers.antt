@@ -23,7 +23,7 @@ returns-clause-kept c =
       step = old.step;
       max_mol = old.max_mol;
       bounds = old.bounds;
-      placings = all_placed_among_more tables.dims tables.bounds (length tables.species) (length c.read.new.species) tables.placings more old.placings;
+      placings = all_placed_among_more tables.dims tables.bounds (length tables.species.items) (length c.read.new.species.items) tables.placings more old.placings;
       commands = old.commands;
       acts = old.acts;
     })
