@@ -12,9 +12,9 @@ use Rattle.smol_run.specs.declared.status.Status.{Status}
 use Rattle.smol_run.specs.Outcome.{EndsAs, EndsAsSome, outcome_of_text, refused}
 
 -- a text that is too long is refused
-pub outcome_of_text-long : (text : List ℕ) → 4194304 < length text → outcome_of_text text ≡ Some (refused 0 (kind_text kind.TooLong))
+pub outcome_of_text-long : (seed : Option ℕ) (text : List ℕ) → 4194304 < length text → outcome_of_text seed text ≡ Some (refused 0 (kind_text kind.TooLong))
 unfolding config_of
-outcome_of_text-long text long = let e : nat_lt 4194304 (length text) ≡ true = search arith in rw e refl
+outcome_of_text-long seed text long = let e : nat_lt 4194304 (length text) ≡ true = search arith in rw e refl
 
 -- all that was taken of the file that was opened are its contents
 pub contents_taken : (name bytes : List ℕ) (a b c : Option Reading) → Tells a b (Opens name) → Tells b c (TakesAll bytes) → IfSome a (λ reading. reading.contents name ≡ Some bytes)
@@ -33,18 +33,18 @@ contents_long name limit (Some x) (Some y) (Some z) opened taken =
     (y.left, opened.left, omega (arith, ap length taken.takes.left, length-append taken.front z.left, taken.length_is))
 
 -- who ends as the outcome of the contents ends as the outcome of the file
-pub ends_as_contents : (name bytes : List ℕ) (status : Status) (a : Option Reading) (w v : Option Written) → IfSome a (λ reading. reading.contents name ≡ Some bytes) → Tells w v (EndsAsSome (outcome_of_text bytes) status) → IfSome a (λ reading. Tells w v (EndsAsSome (option_and_then outcome_of_text (reading.contents name)) status))
-ends_as_contents name bytes status None w v contents ends = tt
-ends_as_contents name bytes status (Some x) w v contents ends = rw contents ends
+pub ends_as_contents : (seed : Option ℕ) (name bytes : List ℕ) (status : Status) (a : Option Reading) (w v : Option Written) → IfSome a (λ reading. reading.contents name ≡ Some bytes) → Tells w v (EndsAsSome (outcome_of_text seed bytes) status) → IfSome a (λ reading. Tells w v (EndsAsSome (option_and_then (outcome_of_text seed) (reading.contents name)) status))
+ends_as_contents seed name bytes status None w v contents ends = tt
+ends_as_contents seed name bytes status (Some x) w v contents ends = rw contents ends
 
 -- the same of a run that may fail, where the file's text was taken whole
-pub whole_ends : {E : Type 0} (name bytes : List ℕ) (result : Result Status E) (a : Option Reading) (w v : Option Written) → IfSome a (λ reading. reading.contents name ≡ Some bytes) → IfOk result (λ status. Tells w v (EndsAsSome (outcome_of_text bytes) status)) → IfOk result (λ status. IfSome a (λ reading. Tells w v (EndsAsSome (option_and_then outcome_of_text (reading.contents name)) status)))
-whole_ends name bytes (Ok status) a w v contents ends = ends_as_contents name bytes status a w v contents ends
-whole_ends name bytes (Err fault) a w v contents ends = tt
+pub whole_ends : {E : Type 0} (seed : Option ℕ) (name bytes : List ℕ) (result : Result Status E) (a : Option Reading) (w v : Option Written) → IfSome a (λ reading. reading.contents name ≡ Some bytes) → IfOk result (λ status. Tells w v (EndsAsSome (outcome_of_text seed bytes) status)) → IfOk result (λ status. IfSome a (λ reading. Tells w v (EndsAsSome (option_and_then (outcome_of_text seed) (reading.contents name)) status)))
+whole_ends seed name bytes (Ok status) a w v contents ends = ends_as_contents seed name bytes status a w v contents ends
+whole_ends seed name bytes (Err fault) a w v contents ends = tt
 
 -- and where the file is too long
-pub long_ends : {E : Type 0} (name : List ℕ) (result : Result Status E) (a : Option Reading) (w v : Option Written) → IfSome a (λ reading. (bytes : List ℕ) × (reading.contents name ≡ Some bytes) × (4194304 < length bytes)) → IfOk result (λ status. Tells w v (EndsAs (refused 0 (kind_text kind.TooLong)) status)) → IfOk result (λ status. IfSome a (λ reading. Tells w v (EndsAsSome (option_and_then outcome_of_text (reading.contents name)) status)))
-long_ends name (Ok status) None w v long ends = tt
-long_ends name (Ok status) (Some x) w v long ends =
-    ends_as_contents name long.0 status (Some x) w v long.1 (rw (outcome_of_text-long long.0 long.2) ends)
-long_ends name (Err fault) a w v long ends = tt
+pub long_ends : {E : Type 0} (seed : Option ℕ) (name : List ℕ) (result : Result Status E) (a : Option Reading) (w v : Option Written) → IfSome a (λ reading. (bytes : List ℕ) × (reading.contents name ≡ Some bytes) × (4194304 < length bytes)) → IfOk result (λ status. Tells w v (EndsAs (refused 0 (kind_text kind.TooLong)) status)) → IfOk result (λ status. IfSome a (λ reading. Tells w v (EndsAsSome (option_and_then (outcome_of_text seed) (reading.contents name)) status)))
+long_ends seed name (Ok status) None w v long ends = tt
+long_ends seed name (Ok status) (Some x) w v long ends =
+    ends_as_contents seed name long.0 status (Some x) w v long.1 (rw (outcome_of_text-long seed long.0 long.2) ends)
+long_ends seed name (Err fault) a w v long ends = tt

@@ -1,3 +1,6 @@
 pub mod Ends
 pub mod Printing
 pub mod Times
+pub mod Places
+pub mod Placing
+pub mod Counting

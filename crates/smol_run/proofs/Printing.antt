@@ -1,29 +1,22 @@
 -- What is printed so far, and what is left.
-use Rattle.std.proofs.Common.{◌≡◌, ℕ, ◌+◌, ◌<◌, true, false, if◌then◌else◌, List, [], ◌∷◌, ◌++◌, length, drop, add-one, refl, sym, ap, ◌∙◌, append_assoc}
-use Rattle.std.proofs.Math.Seq.{drop-cons}
+use Rattle.std.proofs.Common.{◌≡◌, true, false, if◌then◌else◌, List, [], ◌∷◌, ◌++◌, refl, sym, ap, ◌∙◌, append_assoc}
 use Rattle.smol_edge.specs.Outlets.{Piece}
+use Rattle.smol_types.specs.declared.draft.Draft.{Draft}
+use Rattle.smol_types.specs.declared.state.State.{State}
 use Rattle.smol_types.specs.declared.command.Command.{Command}
-use Rattle.smol_types.specs.declared.command.When.{When}
-use Rattle.smol_types.specs.declared.placing.Placing.{Placing}
-use Rattle.smol_types.specs.declared.species.Species.{Species}
-use Rattle.smol_run.specs.Run.{count_of, counts_from, printed, same_phase, outlet_of}
+use Rattle.smol_types.specs.declared.command.Phase.{Phase}
+use Rattle.smol_meaning.specs.Run.{is_due, outlet_of, performed, text_of}
 
 -- a command prints before the others
-printed-cons : (due : When) (line : List ℕ) (command : Command) (commands : List Command) → printed due line (command ∷ commands) ≡ printed due line (command ∷ []) ++ printed due line commands
-printed-cons due line command commands =
-    elim (same_phase command.«when» due) as
-    (λ same. (if same then (outlet_of command.act, line) ∷ printed due line commands else printed due line commands)
-    ≡ (if same then (outlet_of command.act, line) ∷ [] else []) ++ printed due line commands)
+performed-cons : (draft : Draft) (phase : Phase) (state : State) (command : Command) (commands : List Command) → performed draft phase state (command ∷ commands) ≡ performed draft phase state (command ∷ []) ++ performed draft phase state commands
+performed-cons draft phase state command commands =
+    elim (is_due phase command.«when») as
+    (λ due. (if due then (outlet_of command.act, text_of draft state command.act) ∷ performed draft phase state commands else performed draft phase state commands)
+    ≡ (if due then (outlet_of command.act, text_of draft state command.act) ∷ [] else []) ++ performed draft phase state commands)
     [ true ↦ refl | false ↦ refl ]
 
 -- what is printed with one command more, and what is left then
-pub printed-next : (due : When) (line : List ℕ) (command : Command) (rest commands all : List Command) (done : List Piece) → rest ≡ command ∷ commands → done ++ printed due line rest ≡ printed due line all → (done ++ printed due line (command ∷ [])) ++ printed due line commands ≡ printed due line all
-printed-next due line command rest commands all done next so_far =
-    append_assoc done (printed due line (command ∷ [])) (printed due line commands)
-    ∙ ap (λ more. done ++ more) (sym (printed-cons due line command commands) ∙ ap (printed due line) (sym next)) ∙ so_far
-
--- the count of one species more
-pub counts_from-next : (placings : List Placing) (number : ℕ) (species : List Species) → number < length species → counts_from placings number (drop number species) ≡ count_of placings number ∷ counts_from placings (number + 1) (drop (number + 1) species)
-counts_from-next placings number species within =
-    ap (counts_from placings number) (drop-cons species number (record { name = [] }) within)
-    ∙ ap (λ (n : ℕ). count_of placings number ∷ counts_from placings (number + 1) (drop n species)) (sym (add-one number))
+pub performed-next : (draft : Draft) (phase : Phase) (state : State) (command : Command) (rest commands all : List Command) (done : List Piece) → rest ≡ command ∷ commands → done ++ performed draft phase state rest ≡ performed draft phase state all → (done ++ performed draft phase state (command ∷ [])) ++ performed draft phase state commands ≡ performed draft phase state all
+performed-next draft phase state command rest commands all done next so_far =
+    append_assoc done (performed draft phase state (command ∷ [])) (performed draft phase state commands)
+    ∙ ap (λ more. done ++ more) (sym (performed-cons draft phase state command commands) ∙ ap (performed draft phase state) (sym next)) ∙ so_far

@@ -1,5 +1,5 @@
 -- How a run ends, and what it writes: the result of a call.
-use Rattle.std.specs.Prelude.{◌≡◌, ◌⊎◌, ℕ, List, [], ◌∷◌, ◌++◌, Option, None, Some, Result, Ok, Err, IsSomeAnd, codes, slice_index_or}
+use Rattle.std.specs.Prelude.{◌≡◌, ◌⊎◌, ℕ, List, [], ◌∷◌, ◌++◌, Option, None, Some, Result, Ok, Err, IsSomeAnd, codes, slice_index_or, unwrap_or}
 use Rattle.std.specs.Option.{option_and_then}
 use Rattle.std.specs.Fmt.{decimal}
 use Rattle.smol_edge.specs.Source.{Reading}
@@ -9,12 +9,12 @@ use Rattle.smol_types.specs.declared.fault.ConfigFault.{ConfigFault}
 use Rattle.smol_types.specs.declared.fault.ConfigFault.TheVariants as fault
 use Rattle.smol_types.specs.Fault.{kind_text}
 use Rattle.smol_config.specs.Acceptance.{config_of}
+use Rattle.smol_meaning.specs.Run.{pieces_of}
 use Rattle.smol_run.specs.declared.status.Status.{Status}
 use Rattle.smol_run.specs.declared.status.Status.TheVariants.{Done, Usage, Refused, Input, Output, Memory}
 use Rattle.smol_run.specs.declared.words.Job.{Job}
 use Rattle.smol_run.specs.declared.words.Job.TheVariants.{File}
 use Rattle.smol_run.specs.Words.{job_of}
-use Rattle.smol_run.specs.Run.{pieces_of}
 
 -- a status, the names of the files that are opened for writing, and the bytes that are written, each with its outlet
 pub record Outcome : Type 0 where
@@ -34,20 +34,24 @@ misused = ends_with_line Usage (codes "usage: smol FILE [--seed N] [--workers N]
 abbrev pub refused : ℕ → List ℕ → Outcome
 refused line why = ends_with_line Refused (codes "line " ++ decimal line ++ codes ": " ++ why)
 
--- an accepted text is run, and another is refused at its first fault. Want of memory is no outcome
-abbrev pub outcome_of_config : Result Draft ConfigFault → Option Outcome
-outcome_of_config (Ok draft) = Some (record { status = Done; names = []; pieces = pieces_of draft })
-outcome_of_config (Err (fault.At line kind)) = Some (refused line (kind_text kind))
-outcome_of_config (Err fault.OutOfMemory) = None
+-- the seed of a run: that of the words, else that of the configuration, else 0
+abbrev pub seed_of : Option ℕ → Draft → ℕ
+seed_of given draft = unwrap_or given (unwrap_or draft.seed 0)
 
--- a text ends as what it says as a configuration
-abbrev pub outcome_of_text : List ℕ → Option Outcome
-outcome_of_text text = outcome_of_config (config_of text)
+-- an accepted text is run, and another is refused at its first fault. Want of memory is no outcome
+abbrev pub outcome_of_config : Option ℕ → Result Draft ConfigFault → Option Outcome
+outcome_of_config seed (Ok draft) = Some (record { status = Done; names = []; pieces = pieces_of draft (seed_of seed draft) })
+outcome_of_config seed (Err (fault.At line kind)) = Some (refused line (kind_text kind))
+outcome_of_config seed (Err fault.OutOfMemory) = None
+
+-- a text ends as what it says as a configuration, where the words give this seed or none
+abbrev pub outcome_of_text : Option ℕ → List ℕ → Option Outcome
+outcome_of_text seed text = outcome_of_config seed (config_of text)
 
 -- the text is the contents of the file that is named. A file that isn't there has no outcome
 abbrev pub outcome_of_job : Option Job → List (List ℕ) → (List ℕ → Option (List ℕ)) → Option Outcome
 outcome_of_job None words contents = Some misused
-outcome_of_job (Some (File index)) words contents = option_and_then outcome_of_text (contents (slice_index_or words index []))
+outcome_of_job (Some (File index seed)) words contents = option_and_then (outcome_of_text seed) (contents (slice_index_or words index []))
 
 -- what the words of the command line give over these files
 abbrev pub outcome_of : List (List ℕ) → (List ℕ → Option (List ℕ)) → Option Outcome
@@ -79,7 +83,7 @@ AsksOnce name before after = (after.asked ≡ before.asked) ⊎ (after.asked ≡
 -- of the source only the file that the words name was asked for, and that once at most
 abbrev pub AsksForJob : Option Job → List (List ℕ) → Reading → Reading → Type 0
 AsksForJob None words before after = after ≡ before
-AsksForJob (Some (File index)) words before after = AsksOnce (slice_index_or words index []) before after
+AsksForJob (Some (File index seed)) words before after = AsksOnce (slice_index_or words index []) before after
 
 -- how words that ask for nothing may end: with the usage line, or where it can't be written
 abbrev pub IsMisuse : Status → Type 0

@@ -1,8 +1,12 @@
 //! The whole program but for its real outside: from the words of the command line to the bytes on the outlets.
 #![tactic(auto)]
 
-mod counts;
+mod commands;
+mod lines;
+mod motion;
+mod placement;
 mod program;
+mod run;
 mod status;
 mod stop;
 #[cfg(test)]

@@ -1,18 +1,18 @@
 //! The top call.
-ghost use Rattle.std.specs.Prelude.{◌≡◌, ◌≤◌, ◌++◌, None, codes, decimal, length, map, string_bytes, IfOk, IfSome, IsErrOf, MatchResult};
+ghost use Rattle.std.specs.Prelude.{◌≡◌, ◌≤◌, ◌++◌, None, Some, codes, decimal, length, map, string_bytes, IfOk, IfSome, IsErrOf, MatchResult};
 ghost use Rattle.std.specs.Option.{option_and_then};
 ghost use Rattle.smol_edge.specs.Faults.{Rose, Tells};
-ghost use Rattle.smol_run.specs.Words.{job_of};
-ghost use Rattle.smol_run.specs.Outcome.{AsksForJob, AsksOnce, EndsAs, EndsAsSome, IsDefinite, IsMisuse, IsRun, outcome_of, outcome_of_text, refused};
+ghost use Rattle.smol_run.specs.Words.{job_of, NamesWord};
+ghost use Rattle.smol_run.specs.Outcome.{AsksForJob, AsksOnce, EndsAs, EndsAsSome, IsDefinite, IsMisuse, IsRun, outcome_of, outcome_of_job, outcome_of_text, refused, seed_of};
 
-use crate::counts::run_config;
+use crate::run::run_config;
 use crate::status::Status;
 use crate::stop::Stop;
 use crate::words::{Job, read_words};
 use itoa::Buffer;
 use smol_config::read_config;
 use smol_edge::{Gate, Outlets, Source, TakeFault, put_all, take_all};
-use smol_types::{ConfigFault, Kind};
+use smol_types::{Config, ConfigFault, Kind};
 use std::alloc::{AllocError, Global};
 use std::thread::Threads;
 
@@ -86,11 +86,35 @@ fn run_words<S: Source, K: Outlets>(
     ensures outlet_faults { K.faults outlets.old ≤ K.faults outlets.new }
 {
     match read_words(words) {
-        Ok(Job::File { index }) => run_file(alloc, words[index].as_str(), source, outlets),
+        Ok(job) => run_job(alloc, job, words, source, outlets),
         Err(_) => {
             put_all(outlets, STDERR, USAGE)?;
             Ok(Status::Usage)
         }
+    }
+}
+
+// Runs what was asked for by these words.
+fn run_job<S: Source, K: Outlets>(
+    alloc: Global,
+    job: Job,
+    words: &[String],
+    source: &mut S,
+    outlets: &mut K,
+) -> Result<Status, Stop>
+    requires { NamesWord (length words.now) job }
+    ensures ended { IfOk result (λ status. IfSome (S.told source.old) (λ reading.
+        Tells (K.told outlets.old) (K.told outlets.new)
+        (EndsAsSome (outcome_of_job (Some job) (map (λ word. string_bytes word) words.now) reading.contents) status))) }
+    ensures definite { IfOk result IsRun }
+    ensures asked { Tells (S.told source.old) (S.told source.new) (AsksForJob (Some job) (map (λ word. string_bytes word) words.now)) }
+    ensures input { IsErrOf result Stop.Input → Rose (S.faults source.old) (S.faults source.new) }
+    ensures output { IsErrOf result Stop.Output → Rose (K.faults outlets.old) (K.faults outlets.new) }
+    ensures source_faults { S.faults source.old ≤ S.faults source.new }
+    ensures outlet_faults { K.faults outlets.old ≤ K.faults outlets.new }
+{
+    match job {
+        Job::File { index, seed } => run_file(alloc, words[index].as_str(), seed, source, outlets),
     }
 }
 
@@ -119,9 +143,21 @@ fn fault_text(alloc: Global, line: u32, why: &str) -> Result<Vec<u8>, AllocError
     Ok(text)
 }
 
-// Runs a text that isn't too long.
-fn run_text<K: Outlets>(alloc: Global, bytes: &[u8], outlets: &mut K) -> Result<Status, Stop>
-    ensures ended { IfOk result (λ status. Tells (K.told outlets.old) (K.told outlets.new) (EndsAsSome (outcome_of_text bytes.now) status)) }
+// The seed of a run: that of the words, else that of the configuration, else 0.
+fn seed_of(given: Option<u64>, config: &Config) -> u64
+    ensures { result ≡ seed_of given config.now }
+{
+    given.or(config.seed()).unwrap_or(0)
+}
+
+// Runs a text that isn't too long, with the seed that the words give.
+fn run_text<K: Outlets>(
+    alloc: Global,
+    bytes: &[u8],
+    seed: Option<u64>,
+    outlets: &mut K,
+) -> Result<Status, Stop>
+    ensures ended { IfOk result (λ status. Tells (K.told outlets.old) (K.told outlets.new) (EndsAsSome (outcome_of_text seed bytes.now) status)) }
     ensures definite { IfOk result IsRun }
     ensures cause { IsErrOf result Stop.Output → Rose (K.faults outlets.old) (K.faults outlets.new) }
     ensures no_input { IsErrOf result Stop.Input → ⊥ }
@@ -129,7 +165,7 @@ fn run_text<K: Outlets>(alloc: Global, bytes: &[u8], outlets: &mut K) -> Result<
 {
     match read_config(alloc, bytes) {
         Ok(config) => {
-            run_config(alloc, &config, outlets)?;
+            run_config(alloc, &config, seed_of(seed, &config), outlets)?;
             Ok(Status::Done)
         }
         Err(ConfigFault::At { line, kind }) => refuse(alloc, outlets, line, kind.text()),
@@ -137,16 +173,17 @@ fn run_text<K: Outlets>(alloc: Global, bytes: &[u8], outlets: &mut K) -> Result<
     }
 }
 
-// Runs the file of this name.
+// Runs the file of this name, with the seed that the words give.
 fn run_file<S: Source, K: Outlets>(
     alloc: Global,
     name: &str,
+    seed: Option<u64>,
     source: &mut S,
     outlets: &mut K,
 ) -> Result<Status, Stop>
     ensures ended { IfOk result (λ status. IfSome (S.told source.old) (λ reading.
         Tells (K.told outlets.old) (K.told outlets.new)
-        (EndsAsSome (option_and_then outcome_of_text (reading.contents name.now)) status))) }
+        (EndsAsSome (option_and_then (outcome_of_text seed) (reading.contents name.now)) status))) }
     ensures definite { IfOk result IsRun }
     ensures asked { Tells (S.told source.old) (S.told source.new) (AsksOnce name.now) }
     ensures input { IsErrOf result Stop.Input → Rose (S.faults source.old) (S.faults source.new) }
@@ -158,7 +195,7 @@ fn run_file<S: Source, K: Outlets>(
         return Err(Stop::Input);
     };
     match take_all(alloc, source, MOST_BYTES) {
-        Ok(text) => run_text(alloc, &text, outlets),
+        Ok(text) => run_text(alloc, &text, seed, outlets),
         Err(TakeFault::TooLong) => refuse(alloc, outlets, 0, Kind::TooLong.text()),
         Err(TakeFault::ReadFault) => Err(Stop::Input),
         Err(TakeFault::OutOfMemory) => Err(Stop::Memory),

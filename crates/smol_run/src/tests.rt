@@ -120,7 +120,47 @@ fn ends_with_status_and_bytes(rt: HostRuntime) -> Result<(), Fail> {
             ..counted
         },
         Row {
+            words: &["f", "--seed", "1"],
+            ..counted
+        },
+        Row {
+            words: &["--seed", "18446744073709551615", "f"],
+            ..counted
+        },
+        Row {
             words: &["f", "--seed", "1", "--seed", "2"],
+            ..misused
+        },
+        Row {
+            words: &["f", "--seed", "18446744073709551616"],
+            ..misused
+        },
+        Row {
+            words: &["f", "--seed", "-1"],
+            ..misused
+        },
+        Row {
+            words: &["f", "--seed=1"],
+            ..misused
+        },
+        Row {
+            words: &["--seed", "1"],
+            ..misused
+        },
+        Row {
+            words: &["--seed", "1", "--seed"],
+            ..misused
+        },
+        Row {
+            words: &["f", "1", "--seed"],
+            ..misused
+        },
+        Row {
+            words: &["f", "--workers", "1"],
+            ..misused
+        },
+        Row {
+            words: &["--make", "1"],
             ..misused
         },
         Row {
@@ -197,6 +237,18 @@ fn refusals_name_their_line(rt: HostRuntime) -> Result<(), Fail> {
         &["dim 1", "species A", "boundaries x 0 100", "time_stop 1"],
         "line 0: time_step is missing\n",
     )?;
+    refuses(
+        &rt,
+        &[
+            "dim 1",
+            "species A",
+            "difstep A 1",
+            "boundaries x 0 100 p",
+            "time_stop 1",
+            "time_step 1",
+        ],
+        "line 0: not in this profile\n",
+    )?;
     Ok(())
 }
 
@@ -257,5 +309,140 @@ fn a_file_is_as_long_as_it_may_be(rt: HostRuntime) -> Result<(), Fail> {
         stderr: "line 0: file too long\n",
     };
     meets(&rt, &too_long)?;
+    Ok(())
+}
+
+/// One molecule that diffuses for one step in open space.
+const DIFFUSING: [&str; 11] = [
+    "dim 3",
+    "species A",
+    "boundaries x 0 100 t",
+    "boundaries y 0 100 t",
+    "boundaries z 0 100 t",
+    "time_start 0",
+    "time_stop 1",
+    "time_step 1",
+    "difstep A 1",
+    "mol 1 A 50 50 50",
+    "cmd a listmols stdout",
+];
+
+// With the seed 7 the stream of molecule 1 has these words at the places 32 to 49, by a ChaCha8 that was written apart
+// from the crate's:
+//   x: 5bb4fc70 b15696e7 576df786 6d2752eb 952773fc 4ef37638, whose halves add up to 393210 + 32186
+//   y: 994ca234 6c64f116 ee0799bc c40ae509 3125de1c 5dd9a8e1, whose halves add up to 393210 + 122833
+//   z: 1e5169f1 5aaf40f3 dccaf29e 72790d17 dc3a2cbb 5dee2279, whose halves add up to 393210 - 66498
+// A difstep of 1 is 1,000,000 micros, so x goes by 2 * floor((32186 * 1000000 + 32768) / 65536) = 982238 ticks from
+// 100000001, which is at 50.491119; y by 3748566 and z by -2029358 ticks.
+const AFTER_ONE_STEP: &str = "A(solution) 50.491119 51.874283 48.985321 1\n";
+
+// The same with the seeds 0 and 8.
+const WITH_SEED_0: &str = "A(solution) 48.259537 48.626221 50.781891 1\n";
+
+const WITH_SEED_8: &str = "A(solution) 50.367203 47.878235 51.142151 1\n";
+
+#[test]
+fn a_molecule_goes_by_the_words_of_the_seed(rt: HostRuntime) -> Result<(), Fail> {
+    let text = text_of(rt.alloc(), &DIFFUSING)?;
+    let mut with_seed = text.clone()?;
+    with_seed.push_str("random_seed 7")?;
+    let unseeded = Row {
+        words: &["f"],
+        bytes: text.as_bytes(),
+        failing_reads: &[],
+        failing_writes: &[],
+        status: Status::Done,
+        stdout: WITH_SEED_0,
+        stderr: "",
+    };
+    meets(&rt, &unseeded)?;
+    let seeded = Row {
+        words: &["f", "--seed", "7"],
+        stdout: AFTER_ONE_STEP,
+        ..unseeded
+    };
+    meets(&rt, &seeded)?;
+    let before = Row {
+        words: &["--seed", "007", "f"],
+        ..seeded
+    };
+    meets(&rt, &before)?;
+    let in_file = Row {
+        words: &["f"],
+        bytes: with_seed.as_bytes(),
+        ..seeded
+    };
+    meets(&rt, &in_file)?;
+    let over_file = Row {
+        words: &["f", "--seed", "8"],
+        stdout: WITH_SEED_8,
+        ..in_file
+    };
+    meets(&rt, &over_file)?;
+    Ok(())
+}
+
+// The places are those that three displacements of that ChaCha8 lead to, with the seed 258 and a difstep of 500000 micros.
+#[test]
+fn molecules_go_step_by_step(rt: HostRuntime) -> Result<(), Fail> {
+    let text = text_of(
+        rt.alloc(),
+        &[
+            "random_seed 258",
+            "dim 2",
+            "species A B",
+            "difstep all 0.5",
+            "difstep B 0",
+            "boundaries x 0 10",
+            "boundaries y 0 10",
+            "time_stop 0.3",
+            "time_step 0.1",
+            "mol 2 A 5 5",
+            "mol 1 B 1 10",
+            "cmd a listmols stdout",
+            "cmd a molcount stdout",
+            "cmd b listmols stdout",
+        ],
+    )?;
+    let row = Row {
+        words: &["f"],
+        bytes: text.as_bytes(),
+        failing_reads: &[],
+        failing_writes: &[],
+        status: Status::Done,
+        stdout: "A(solution) 5 5 1\nA(solution) 5 5 2\nB(solution) 1 9.999999 3\nA(solution) 5.435158 5.140519 1\nA(solution) 4.433784 7.341194 2\nB(solution) 1 9.999999 3\n0.3 2 1\n",
+        stderr: "",
+    };
+    meets(&rt, &row)?;
+    Ok(())
+}
+
+// A coordinate is printed below a wall that it was given at, on either side of 0.
+#[test]
+fn a_molecule_is_listed_where_it_stands(rt: HostRuntime) -> Result<(), Fail> {
+    let text = text_of(
+        rt.alloc(),
+        &[
+            "dim 3",
+            "species A",
+            "boundaries x 0 100 r",
+            "boundaries y -1 0 p",
+            "boundaries z 0 100 a",
+            "time_stop 1",
+            "time_step 1",
+            "mol 1 A 100 0 50",
+            "cmd a listmols stdout",
+        ],
+    )?;
+    let row = Row {
+        words: &["f"],
+        bytes: text.as_bytes(),
+        failing_reads: &[],
+        failing_writes: &[],
+        status: Status::Done,
+        stdout: "A(solution) 99.999999 -0.000001 50 1\n",
+        stderr: "",
+    };
+    meets(&rt, &row)?;
     Ok(())
 }
