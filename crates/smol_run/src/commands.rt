@@ -1,9 +1,8 @@
 //! What commands print, and when.
-ghost use Rattle.std.specs.Prelude.{◌≡◌, ◌≤◌, ◌+◌, ◌<◌, [], ◌∷◌, ◌++◌, IfOk, IsErrOf, OnOk, All, flat_map, length, pos, ◌<ℤ◌, unsigned_abs};
+ghost use Rattle.std.specs.Prelude.{◌≡◌, ◌≤◌, ◌<◌, [], ◌∷◌, IfOk, IsErrOf, OnOk, All, flat_map, length};
 ghost use Rattle.smol_edge.specs.Faults.{Rose, Tells};
 ghost use Rattle.smol_edge.specs.Outlets.{Appends};
 ghost use Rattle.smol_types.specs.declared.state.Mol.{Mol as TheMol};
-ghost use Rattle.smol_types.specs.declared.command.Command.{Command as TheCommand};
 ghost use Rattle.smol_types.specs.Sound.{IsAct};
 ghost use Rattle.smol_types.specs.State.{Fits};
 ghost use Rattle.smol_types.specs.Steps.{last_step, time_at};

@@ -1,7 +1,6 @@
 //! The lines that commands print.
-ghost use Rattle.std.specs.Prelude.{◌≡◌, ◌++◌, ◌≤◌, ◌<◌, All, IfOk, OnOk, codes, length};
+ghost use Rattle.std.specs.Prelude.{◌≡◌, ◌++◌, ◌<◌, All, IfOk, OnOk, codes, length};
 ghost use Rattle.smol_num.specs.Print.{decimal_text};
-ghost use Rattle.smol_types.specs.declared.species.Species.{Species as TheSpecies};
 ghost use Rattle.smol_types.specs.declared.state.Mol.{Mol as TheMol};
 ghost use Rattle.smol_meaning.specs.Lines.{coordinates_text, count_line, counts_from, micros_at, mol_line, spaced};
 
