@@ -1,4 +1,13 @@
 pub mod Fault
+pub mod Limits
 pub mod Steps
+pub mod Coordinates
+pub mod Walls
+pub mod Actions
+pub mod Panels
+pub mod Compartments
+pub mod Reactions
+pub mod Placings
+pub mod Commands
 pub mod Sound
 pub mod State

@@ -1,7 +1,7 @@
 ghost use Rattle.std.specs.Prelude.{◌≡◌};
 ghost use Rattle.smol_types.specs.Sound.{IsSound};
 
-use crate::{Command, Draft, Placing, Species, Wall};
+use crate::{Command, Compartment, Draft, Name, Panel, Placing, Reaction, Species, Surface, Wall};
 use std::marker::Model;
 
 /// What an accepted configuration says. Contracts see it as its draft, which is sound.
@@ -54,6 +54,38 @@ impl Config {
         self.draft.walls.as_slice()
     }
 
+    /// The surfaces in order.
+    pub fn surfaces(&self) -> &[Surface]
+        ensures value { result.now ≡ self.now.surfaces }
+        ensures sound { IsSound self.now }
+    {
+        self.draft.surfaces.as_slice()
+    }
+
+    /// The panels of all surfaces in order.
+    pub fn panels(&self) -> &[Panel]
+        ensures value { result.now ≡ self.now.panels }
+        ensures sound { IsSound self.now }
+    {
+        self.draft.panels.as_slice()
+    }
+
+    /// The compartments in order.
+    pub fn compartments(&self) -> &[Compartment]
+        ensures value { result.now ≡ self.now.compartments }
+        ensures sound { IsSound self.now }
+    {
+        self.draft.compartments.as_slice()
+    }
+
+    /// The reactions in order.
+    pub fn reactions(&self) -> &[Reaction]
+        ensures value { result.now ≡ self.now.reactions }
+        ensures sound { IsSound self.now }
+    {
+        self.draft.reactions.as_slice()
+    }
+
     /// The molecules to be placed, in order.
     pub fn placings(&self) -> &[Placing]
         ensures value { result.now ≡ self.now.placings }
@@ -68,6 +100,14 @@ impl Config {
         ensures sound { IsSound self.now }
     {
         self.draft.commands.as_slice()
+    }
+
+    /// The names of the files that are written, in order. The first is outlet 2.
+    pub fn outputs(&self) -> &[Name]
+        ensures value { result.now ≡ self.now.outputs }
+        ensures sound { IsSound self.now }
+    {
+        self.draft.outputs.as_slice()
     }
 
     /// The time of the opening state, in nanos.

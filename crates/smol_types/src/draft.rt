@@ -1,4 +1,4 @@
-use crate::{Command, Items, Placing, Species, Wall};
+use crate::{Command, Compartment, Items, Name, Panel, Placing, Reaction, Species, Surface, Wall};
 
 /// What a configuration says, a field for each quantity.
 #[derive(Debug, Drop)]
@@ -9,10 +9,20 @@ pub struct Draft {
     pub species: Items<Species>,
     /// The walls in the order x low, x high, y low, y high, z low, z high, for the axes in use.
     pub walls: Items<Wall>,
+    /// The surfaces, in order.
+    pub surfaces: Items<Surface>,
+    /// The panels of all surfaces, in order.
+    pub panels: Items<Panel>,
+    /// The compartments, in order.
+    pub compartments: Items<Compartment>,
+    /// The reactions, in order.
+    pub reactions: Items<Reaction>,
     /// The molecules to be placed, in order.
     pub placings: Items<Placing>,
     /// The commands, in order.
     pub commands: Items<Command>,
+    /// The names of the files that are written, in order. The first is outlet 2.
+    pub outputs: Items<Name>,
     /// The time of the opening state, in nanos.
     pub start: i64,
     /// The time at which the run stops, in nanos.

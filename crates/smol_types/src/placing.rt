@@ -16,4 +16,11 @@ pub enum Placing {
         species: u16,
         at: [Given; 3],
     },
+    /// `n` molecules of a species inside a compartment, by the statement in this line.
+    InCompartment {
+        line: u32,
+        n: u32,
+        species: u16,
+        compartment: u16,
+    },
 }
