@@ -2,5 +2,7 @@
 #![tactic(auto)]
 
 mod law;
+mod way;
 
 pub use law::each_state_fits;
+pub use way::{Response, Standing, Travelled};
