@@ -6,3 +6,5 @@ pub mod Plates
 pub mod Way
 pub mod Crossing
 pub mod Box
+pub mod Seen
+pub mod Moves
