@@ -1,8 +1,8 @@
 //! What a run of a configuration means: its definitions, which the crates that run it cite, and laws about them.
 #![tactic(auto)]
 
-mod law;
+mod event;
 mod way;
 
-pub use law::each_state_fits;
+pub use event::{Birth, Fired};
 pub use way::{Response, Standing, Travelled};
