@@ -14,6 +14,7 @@ pub fn put_all<K: Outlets>(outlets: &mut K, outlet: u32, bytes: &[u8]) -> Result
     ensures opened_stays { K.opened outlets.new ≡ K.opened outlets.old }
     ensures faults_stay { K.faults outlets.old ≤ K.faults outlets.new }
     ensures cause { OnErr result (Rose (K.faults outlets.old) (K.faults outlets.new)) }
+    ensures no_fault { OnOk result (K.faults outlets.new ≡ K.faults outlets.old) }
 {
     let mut written = 0;
     while written < bytes.len() {
