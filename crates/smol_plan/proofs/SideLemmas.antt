@@ -1,9 +1,11 @@
--- Two sides are one, or the one and the other.
-use Rattle.std.proofs.Common.{◌≡◌, true, refl}
-use Rattle.std.proofs.lemmas.Bool.{false≢true}
+-- Two sides are one, or the one and the other; and what a pair has on a side.
+use Rattle.std.proofs.Common.{◌≡◌, ℕ, true, List, refl}
+use Rattle.std.proofs.lemmas.Bool.{false≢true, or_left, or_right, eq-eqb}
+use Rattle.smol_plan.specs.declared.pair.Pair.{Pair}
 use Rattle.smol_plan.specs.declared.pair.Side.{Side}
 use Rattle.smol_plan.specs.declared.pair.Side.TheVariants.{Low, High}
-use Rattle.smol_plan.specs.Pair.{is_side}
+use Rattle.smol_plan.specs.Pair.{is_side, molecule_at}
+use Rattle.smol_plan.specs.Links.{has_at}
 
 pub is_side-true : (s t : Side) → is_side s t ≡ true → s ≡ t
 is_side-true Low Low e = refl
@@ -17,3 +19,8 @@ is_side-refl High = refl
 
 pub low_is_high : Low ≡ High → ⊥
 low_is_high e = cc
+
+-- a pair has the molecule that it has on a side
+pub has_on_side : (pairs : List Pair) (m j : ℕ) (side : Side) → molecule_at pairs j side ≡ m → has_at pairs m j ≡ true
+has_on_side pairs m j Low e = or_left _ _ (eq-eqb _ _ e)
+has_on_side pairs m j High e = or_right _ _ (eq-eqb _ _ e)

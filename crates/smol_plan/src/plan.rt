@@ -87,6 +87,7 @@ impl Plan {
     pub fn slice(&self, slice: usize) -> Range<usize>
         requires { slice < slice_count self.now }
         ensures start { result.start ≡ 64 * slice }
+        ensures some { result.start < result.end }
         ensures end { result.end ≡ min (64 * slice + 64) (length self.now) }
         ensures holds { (j : ℕ) → j < length self.now → (slice_of j ≡ slice) ↔ ((result.start ≤ j) × (j < result.end)) }
     {
@@ -134,8 +135,8 @@ impl Plan {
         self.pairs[pair].molecule(side)
     }
 
-    // The side on which a pair has a molecule.
-    pub(crate) fn side_of(&self, pair: usize, molecule: u64) -> Side
+    /// The side on which a pair has a molecule.
+    pub fn side_of(&self, pair: usize, molecule: u64) -> Side
         requires inside { pair < length self.now }
         requires has { has_at self.now molecule pair ≡ true }
         ensures { molecule_at self.now pair result ≡ molecule }

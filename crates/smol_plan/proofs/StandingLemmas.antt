@@ -6,30 +6,21 @@ use Rattle.std.proofs.lemmas.Bool.{cases_eq, cases_lt, lt-ltb, le-ltb, and_parts
 use Rattle.smol_plan.specs.declared.pair.Pair.{Pair}
 use Rattle.smol_plan.specs.declared.pair.Side.{Side}
 use Rattle.smol_plan.specs.declared.pair.Side.TheVariants.{Low, High}
-use Rattle.smol_plan.specs.declared.standing.Decision.{Decision}
+use Rattle.smol_plan.specs.declared.decision.Decision.{Decision}
 use Rattle.smol_plan.specs.declared.standing.Standing.{Standing}
 use Rattle.smol_plan.specs.Pair.{is_side, molecule_at}
 use Rattle.smol_plan.specs.Matching.{fires}
 use Rattle.smol_plan.specs.Links.{is_number, comes_from}
-use Rattle.smol_plan.specs.Machine.{State, slice_of, has_no_link, left_of, is_decided, is_beaten, after_take, after_decide, with_told, after_tell}
+use Rattle.smol_plan.specs.Machine.{slice_of, has_no_link, left_of, is_decided, is_beaten, after_take, after_decide, with_told, after_tell}
 use Rattle.smol_plan.specs.Good.{Good, HasDecidedSource}
 use Rattle.smol_plan.specs.Standing.{fresh, told_of, ower_of, set_told, set_ower, fired_of}
-use Rattle.smol_plan.specs.Board.{standing_at, state_from, after_slice, comes_by, after_owing, untold_count, after_telling, TellsTaken, SourceTells, SourcesTell}
+use Rattle.smol_plan.specs.Board.{standing_at, state_from, after_slice, comes_by, after_owing, untold_count, after_telling, SourceTells, SourcesTell}
+use Rattle.smol_plan.specs.Decision.{TellsTaken}
 use Rattle.smol_plan.proofs.SideLemmas.{is_side-true, is_side-refl}
 use Rattle.smol_plan.proofs.LinkLemmas.{source_tells, link_inside}
 use Rattle.smol_plan.proofs.GoodLemmas.{AllTold-from_left, on_a_side, told_source, owed_source, is_beaten-fires}
 use Rattle.smol_plan.proofs.GoodKept.{is_number_from, held_by_nobody, only_ower}
-
--- two states are one where their parts agree everywhere
-pub State-same : (s t : State) → ((k : ℕ) → s.taken k ≡ t.taken k) → ((k : ℕ) → s.decision k ≡ t.decision k) → ((k : ℕ) (side : Side) → s.told k side ≡ t.told k side) → ((w k : ℕ) → s.holds w k ≡ t.holds w k) → ((w k : ℕ) (side : Side) → s.owes w k side ≡ t.owes w k side) → s ≡ t
-State-same s t taken decision told holds owes =
-    λ i. record {
-      taken = λ k. taken k i;
-      decision = λ k. decision k i;
-      told = λ k side. told k side i;
-      holds = λ w k. holds w k i;
-      owes = λ w k side. owes w k side i;
-    }
+use Rattle.smol_plan.proofs.StateLemmas.{State-same}
 
 -- past the end of the list there is nothing
 standing_past : (standings : List Standing) (j : ℕ) → length standings ≤ j → standing_at standings j ≡ fresh
