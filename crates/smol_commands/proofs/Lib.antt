@@ -1,2 +1,5 @@
 mod Times
 mod Marks
+mod SpeciesCounts
+mod Ranks
+mod Added
