@@ -131,3 +131,6 @@ meets_decides rect a b sight from to = (meets_is rect a b, meets_from rect a b s
 pub meets_wall_decides : (axis : ℕ) (plane : ℤ) (a b : Place)
     → Decides (line_meets (Plane axis plane) a b) (IsStrictlyBetween plane (on_axis a.0 axis) (on_axis b.0 axis))
 meets_wall_decides axis plane a b = (meets_wall_is axis plane a b, meets_wall_from axis plane a b)
+
+pub strictly_between_decides : (x a b : ℤ) → Decides (is_strictly_between x a b) (IsStrictlyBetween x a b)
+strictly_between_decides x a b = (strictly_between_is x a b, strictly_between_from x a b)

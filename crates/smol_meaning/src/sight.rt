@@ -22,7 +22,9 @@ pub fn meets_panel(rect: &Rect, a: &Place, b: &Place) -> bool
 
 /// Whether the straight line between two places meets the wall that stands at a plane across an axis.
 pub fn meets_wall(axis: u8, plane: i64, a: &Place, b: &Place) -> bool
-    requires { axis < 3 }
+    requires axis { axis < 3 }
+    requires a { IsPlaceWithin (2 ^ 58) a.now }
+    requires b { IsPlaceWithin (2 ^ 58) b.now }
     ensures { result ≡ line_meets (Plane axis plane) a.now b.now }
 {
     let start = a.0[axis as usize];
