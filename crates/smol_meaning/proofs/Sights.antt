@@ -1,6 +1,6 @@
 -- The test of a straight line on a sheet says whether the line meets it.
-use Rattle.std.proofs.Common.{⊎_elim, ◌≡◌, ℕ, ◌*◌, ◌⊎◌, inl, inr, Bool, true, ◌&&◌, ◌||◌, List, [], ◌∷◌, refl, sym, ◌∙◌, ap, subst, arith, ℤ, pos, neg_ℤ, ◌+ℤ◌, ◌-ℤ◌, ◌*ℤ◌, ◌≤ℤ◌, ◌<ℤ◌, ◌^◌, unsigned_abs}
-use Rattle.std.specs.Prelude.{int_le, int_lt, IsTrue, ◌↔◌}
+use Rattle.std.proofs.Common.{⊎_elim, ◌≡◌, ℕ, inl, inr, true, ◌&&◌, List, [], ◌∷◌, refl, sym, ◌∙◌, ap, arith, ℤ, pos, neg_ℤ, ◌+ℤ◌, ◌-ℤ◌, ◌*ℤ◌, ◌≤ℤ◌, ◌<ℤ◌, ◌^◌, unsigned_abs}
+use Rattle.std.specs.Prelude.{int_le, int_lt}
 use Rattle.std.proofs.lemmas.Bool.{cases_Bool, and_from, and_parts, or_cases, or_left, or_right}
 use Rattle.std.proofs.lemmas.Int.{ints}
 use borrow.Author.Differences.{le-true, le-false, lt-true, lt-false}
@@ -15,7 +15,7 @@ use Rattle.smol_geom.proofs.Integers.{sums, mul-add_left, mul-neg_right}
 use Rattle.smol_geom.proofs.Lines.{passes_plane, meets_at_plane, meets_there}
 use Rattle.smol_geom.proofs.Fractions.{over}
 use Rattle.smol_geom.proofs.Ways.{above_low, below_high}
-use Rattle.smol_meaning.specs.Plates.{Rectangle, Plane, is_between, is_in_rect, is_on}
+use Rattle.smol_meaning.specs.Plates.{Rectangle, Plane, is_between, is_in_rect}
 use Rattle.smol_meaning.specs.Sight.{is_strictly_between, line_meets, part_at}
 use Rattle.smol_meaning.specs.Sighted.{IsInSight, IsPlaceWithin}
 use Rattle.std.specs.Bool.{Decides}
