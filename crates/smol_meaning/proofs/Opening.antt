@@ -22,6 +22,8 @@ use Rattle.smol_types.specs.Walls.{AreGiven, AreWalls, IsAxis, IsGiven, LiesBetw
 use Rattle.std.proofs.Math.Nat.{mul-le-mul_right}
 use Rattle.smol_streams.specs.Words.{key_of_seed, number_below, word_of}
 use Rattle.smol_streams.proofs.Sizes.{word_small}
+use Rattle.smol_meaning.specs.Sighted.{IsPlaceWithin}
+use Rattle.smol_meaning.proofs.Places.{IsCoordinate, coordinates_within, place_within_more}
 use Rattle.smol_meaning.specs.Chance.{coordinate_drawn}
 use Rattle.smol_meaning.specs.Inside.{is_inside}
 use Rattle.smol_meaning.specs.Placement.{NoPlace, anywhere, coordinate_at, coordinates_at, first_inside, mol_at, most_tries, opened, opened_with, opening_state, place_at_try, placed_behind, placed_from, placed_many, placed_one, placed_together}
@@ -66,11 +68,6 @@ drawn_between seed serial try axis number lower upper walls =
     let lies = odd_between low high (number_below seed (2 ^ 62 + serial) (8 * try + 2 * axis) (unsigned_abs (high -ℤ low) / 2))
     walls.lower_even walls.upper_even walls.ordered (drawn_below seed (2 ^ 62 + serial) (8 * try + 2 * axis) (unsigned_abs (high -ℤ low) / 2) room) in
     record { odd = lies.odd; above = lies.above; below = lies.below }
-
--- a coordinate of a place: odd and no farther from the origin
-record IsCoordinate (most : ℕ) (x : ℤ) : Type 0 where
-  odd : unsigned_abs x % 2 ≡ 1
-  size : unsigned_abs x ≤ most
 
 between_walls : (number : ℕ) (lower upper : Wall) (x : ℤ) → IsAxis number lower upper → LiesBetween lower upper x → IsCoordinate farthest x
 between_walls number lower upper x walls lies =
@@ -191,6 +188,14 @@ module _ (draft : Draft) (sound : IsSound draft) (seed : ℕ) where
         ap (λ (m : Mol). m.serial) whole,
         subst (IsPlaced draft) (sym whole) (placed_at serial species try.0 anywhere may.1 refl (anywhere_may 0 draft.walls sound.walls)),
       )
+
+-- what is drawn for a molecule that is to be inside a compartment stands where lines are drawn
+pub anywhere_within : (draft : Draft) (seed serial try : ℕ) → IsSound draft → IsPlaceWithin (2 ^ 57) (place_at_try draft seed serial try anywhere)
+anywhere_within draft seed serial try sound =
+    let place = place_at_try draft seed serial try anywhere in
+    let three = length_coordinates seed serial try anywhere draft.walls 0 in
+    let are = are_coordinates seed serial try anywhere draft.walls 0 0 draft.dims sound.walls sound.wall_count (anywhere_may 0 draft.walls sound.walls) in
+    place_within_more farthest (2 ^ 57) place (omega arith) (coordinates_within farthest draft.dims place (omega arith) three are)
 
 -- so many molecules with serials from one on, as a state before the first step may have them
 record ArePlaced (draft : Draft) (serial n : ℕ) (mols : List Mol) : Type 0 where
