@@ -1,0 +1,3 @@
+pub mod Opening
+pub mod Places
+pub mod Sights
