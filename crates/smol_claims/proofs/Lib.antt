@@ -1,3 +1,6 @@
 pub mod ListLemmas
 pub mod CodeLemmas
 pub mod SeatLemmas
+pub mod StillLemmas
+pub mod TakeLemmas
+pub mod LookLemmas
