@@ -4,3 +4,5 @@ pub mod SeatLemmas
 pub mod StillLemmas
 pub mod TakeLemmas
 pub mod LookLemmas
+pub mod DecideLemmas
+pub mod TellLemmas
