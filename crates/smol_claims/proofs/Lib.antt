@@ -6,3 +6,5 @@ pub mod TakeLemmas
 pub mod LookLemmas
 pub mod DecideLemmas
 pub mod TellLemmas
+pub mod SplitLemmas
+pub mod OpenLemmas

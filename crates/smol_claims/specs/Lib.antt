@@ -4,5 +4,6 @@ pub mod Code
 pub mod Spelled
 pub mod Rule
 pub mod Plays
+pub mod Fresh
 pub mod Task
 pub mod KeptClaims
