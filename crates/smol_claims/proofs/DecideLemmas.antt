@@ -205,5 +205,5 @@ decides pairs workers slots id me j code active plan holds code_is s r deep at s
   keeps,
   tt,
   decide_kept pairs workers s r id me.0 at active j code holds code_is,
-  λ k l e. let there : decision_at pairs j ≡ decision_at pairs k = e ∙ ap (λ ps. decision_at ps k) plan in let same : j ≡ k = omega (arith, there) in subst (λ q. Decides me.0 q (view_deciding me.0 j)) same (decide_tells pairs workers s r id me.0 at active j code holds code_is),
+  (refl, λ k l e. let there : decision_at pairs j ≡ decision_at pairs k = e ∙ ap (λ ps. decision_at ps k) plan in let same : j ≡ k = omega (arith, there) in subst (λ q. Decides me.0 q (view_deciding me.0 j)) same (decide_tells pairs workers s r id me.0 at active j code holds code_is)),
 )

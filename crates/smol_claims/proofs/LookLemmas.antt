@@ -85,5 +85,5 @@ looks pairs workers slots id me j active plan inside s r deep at small = (
   keeps,
   tt,
   look_kept pairs workers s r id me.0 at active j inside,
-  λ k l e. let there : decision_at pairs j ≡ decision_at pairs k = e ∙ ap (λ ps. decision_at ps k) plan in let same : j ≡ k = omega (arith, there) in subst (λ q. LooksAt me.0 q (get_or s.words (decision_at pairs j) 0) (view_looking me.0 j (get_or s.words (decision_at pairs j) 0))) same (look_tells pairs workers s r id me.0 at active j inside),
+  (refl, λ k l e. let there : decision_at pairs j ≡ decision_at pairs k = e ∙ ap (λ ps. decision_at ps k) plan in let same : j ≡ k = omega (arith, there) in subst (λ q. LooksAt me.0 q (get_or s.words (decision_at pairs j) 0) (view_looking me.0 j (get_or s.words (decision_at pairs j) 0))) same (look_tells pairs workers s r id me.0 at active j inside)),
 )

@@ -175,5 +175,5 @@ takes pairs workers slots id me slice active inside s r deep at small = (
   keeps,
   tt,
   take_kept pairs workers s r id me.0 at active slice inside,
-  λ k l e. let same : slice ≡ k = omega (arith, e) in subst (λ q. Rattle.smol_claims.specs.Plays.Takes me.0 q (get_or s.words (slice_at slice) 0) (view_taking me.0 slice (get_or s.words (slice_at slice) 0 == 0))) same record { view = refl; new = take_fresh pairs workers s r id me.0 at active slice inside },
+  (refl, λ k l e. let same : slice ≡ k = omega (arith, e) in subst (λ q. Rattle.smol_claims.specs.Plays.Takes me.0 q (get_or s.words (slice_at slice) 0) (view_taking me.0 slice (get_or s.words (slice_at slice) 0 == 0))) same record { view = refl; new = take_fresh pairs workers s r id me.0 at active slice inside }),
 )

@@ -249,5 +249,5 @@ tells pairs workers slots id me j side active plan owed s r deep at small =
       keeps,
       tt,
       subst (λ (z : ℕ). KeepsRule pairs workers (stepped s (counter_at pairs j) z id me.1 (view_telling me.0 l (x == 1)) keeps)) less (tell_kept pairs workers s r id me.0 at active l owed),
-      λ k h e. let there : counter_at pairs j ≡ counter_at pairs k = e ∙ ap (λ ps. counter_at ps k) plan in let same : j ≡ k = omega (arith, there) in subst (λ q. Tells me.0 (record { pair = q; side = side }) x (view_telling me.0 l (x == 1))) same (tell_tells pairs workers s r id me.0 at active l owed),
+      (refl, λ k h e. let there : counter_at pairs j ≡ counter_at pairs k = e ∙ ap (λ ps. counter_at ps k) plan in let same : j ≡ k = omega (arith, there) in subst (λ q. Tells me.0 (record { pair = q; side = side }) x (view_telling me.0 l (x == 1))) same (tell_tells pairs workers s r id me.0 at active l owed)),
     )

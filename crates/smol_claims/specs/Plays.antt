@@ -10,7 +10,7 @@ use Rattle.smol_claims.specs.View.{has, free_pairs, view_taking, view_looking, v
 use Rattle.smol_claims.specs.Layout.{slice_at, counter_at, decision_at}
 use Rattle.smol_claims.specs.Code.{IsCodeOf}
 
--- what a seat knows; a table without slots gives it nothing else
+-- what a seat knows, and the slots that it has taken, of which there are none here
 abbrev pub Known : Type 0
 Known = Me (Unit {0}) View
 
@@ -62,19 +62,19 @@ pub record Tells (v : View) (l : Link) (found : ℕ) (w : View) : Type 0 where
 -- what a step on a word of a slice tells
 abbrev pub taking : Move → Known → ℕ → Known → Type 0
 taking move me found me' =
-    (slice : ℕ) → slice < slice_count me.0.pairs → move.word ≡ slice_at slice → Takes me.0 slice found me'.0
+    (me'.1 ≡ me.1) × ((slice : ℕ) → slice < slice_count me.0.pairs → move.word ≡ slice_at slice → Takes me.0 slice found me'.0)
 
 -- what a load of a word of a pair's decision tells
 abbrev pub looking : Move → Known → ℕ → Known → Type 0
 looking move me found me' =
-    (j : ℕ) → j < length me.0.pairs → move.word ≡ decision_at me.0.pairs j → LooksAt me.0 j found me'.0
+    (me'.1 ≡ me.1) × ((j : ℕ) → j < length me.0.pairs → move.word ≡ decision_at me.0.pairs j → LooksAt me.0 j found me'.0)
 
 -- what a step on a word of a pair's decision tells
 abbrev pub deciding : Move → Known → ℕ → Known → Type 0
 deciding move me found me' =
-    (j : ℕ) → j < length me.0.pairs → move.word ≡ decision_at me.0.pairs j → Decides me.0 j me'.0
+    (me'.1 ≡ me.1) × ((j : ℕ) → j < length me.0.pairs → move.word ≡ decision_at me.0.pairs j → Decides me.0 j me'.0)
 
 -- what a step on a counter tells, where it is for the link on this side
 abbrev pub telling : Side → Move → Known → ℕ → Known → Type 0
 telling side move me found me' =
-    (j : ℕ) → j < length me.0.pairs → move.word ≡ counter_at me.0.pairs j → Tells me.0 (record { pair = j; side = side }) found me'.0
+    (me'.1 ≡ me.1) × ((j : ℕ) → j < length me.0.pairs → move.word ≡ counter_at me.0.pairs j → Tells me.0 (record { pair = j; side = side }) found me'.0)
