@@ -8,3 +8,4 @@ pub mod DecideLemmas
 pub mod TellLemmas
 pub mod SplitLemmas
 pub mod OpenLemmas
+pub mod SitLemmas

@@ -6,4 +6,6 @@ pub mod Rule
 pub mod Plays
 pub mod Fresh
 pub mod Task
+pub mod Hand
+pub mod KeptWorker
 pub mod KeptClaims
