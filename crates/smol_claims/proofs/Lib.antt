@@ -9,3 +9,4 @@ pub mod TellLemmas
 pub mod SplitLemmas
 pub mod OpenLemmas
 pub mod SitLemmas
+pub mod HandLemmas

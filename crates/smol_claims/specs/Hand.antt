@@ -1,5 +1,5 @@
 -- A worker as contracts see it, and the pairs that it has in hand.
-use Rattle.std.specs.Prelude.{ℕ, ◌≡◌, ◌+◌, ◌<◌, ◌≤◌, List, [], length}
+use Rattle.std.specs.Prelude.{ℕ, ◌≡◌, ◌+◌, ◌<◌, ◌≤◌, true, List, [], length}
 use Rattle.atomic_table.specs.Seated.{TableId}
 use Rattle.smol_claims.specs.declared.view.View.{View}
 use Rattle.smol_claims.specs.View.{has, times}
@@ -40,3 +40,18 @@ pub record OnlyLooks (v w : View) : Type 0 where
   pub mine : w.mine ≡ v.mine
   pub seen : w.seen ≡ v.seen
   pub share : w.share ≡ v.share
+
+-- the seat has gone on with its work: its plan and its share stay, and it has decided what it had decided
+pub record GoesOn (v w : View) : Type 0 where
+  pub pairs : w.pairs ≡ v.pairs
+  pub workers : w.workers ≡ v.workers
+  pub share : w.share ≡ v.share
+  pub mine : (j : ℕ) → has v.mine j ≡ true → has w.mine j ≡ true
+
+-- the seat holds and owes nothing, nothing is on the stack, and what is decided is so once and of the plan
+pub record IsDone (v : View) (stack : List ℕ) : Type 0 where
+  pub held : v.held ≡ []
+  pub owed : v.owed ≡ []
+  pub empty : stack ≡ []
+  pub once : (j : ℕ) → times v.mine j ≤ 1
+  pub inside : (j : ℕ) → length v.pairs ≤ j → times v.mine j ≡ 0

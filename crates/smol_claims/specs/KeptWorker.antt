@@ -2,18 +2,15 @@
 use Rattle.std.specs.Prelude.{◌≡◌, ◌<◌, ◌≤◌, [], length, vec_capacity}
 use Rattle.smol_plan.specs.Machine.{slice_count}
 use Rattle.smol_claims.specs.declared.worker.Worker.TheInside.{Inside}
-use Rattle.smol_claims.specs.Hand.{Hand, IsInHand}
+use Rattle.smol_claims.specs.Hand.{Hand, IsDone}
 
 abbrev pub hand_of : Inside → Hand
 hand_of worker = record { table = worker.seat.table_id; view = worker.seat.me.0 }
 
--- it holds and owes nothing, and its stack is empty, with room for every pair
+-- it holds and owes nothing, and its stack has room for every pair
 pub record IsAtRest (worker : Inside) : Type 0 where
   pub share : 0 < worker.seat.me.0.share
   pub slots : worker.seat.me.1 ≡ []
-  pub held : worker.seat.me.0.held ≡ []
-  pub owed : worker.seat.me.0.owed ≡ []
   pub seen : worker.seat.me.0.seen ≤ slice_count worker.seat.me.0.pairs
-  pub hand : IsInHand worker.seat.me.0 worker.stack.items
-  pub empty : worker.stack.items ≡ []
+  pub done : IsDone worker.seat.me.0 worker.stack.items
   pub room : length worker.seat.me.0.pairs ≤ vec_capacity worker.stack

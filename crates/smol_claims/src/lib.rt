@@ -9,6 +9,7 @@ mod claims;
 mod code;
 mod plays;
 mod rule;
+mod settle;
 mod setup;
 mod steps;
 mod view;
