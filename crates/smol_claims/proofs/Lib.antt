@@ -10,3 +10,4 @@ pub mod SplitLemmas
 pub mod OpenLemmas
 pub mod SitLemmas
 pub mod HandLemmas
+pub mod NextLinkLemmas
