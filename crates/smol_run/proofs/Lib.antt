@@ -1,5 +1,6 @@
 pub mod Ends
 pub mod Printing
+pub mod Items
 pub mod Times
 pub mod Places
 pub mod Placing
