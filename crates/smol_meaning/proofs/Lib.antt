@@ -1,3 +1,9 @@
 pub mod Opening
 pub mod Stepping
 pub mod States
+pub mod Responses
+pub mod Skips
+pub mod Crossings
+pub mod Planes
+pub mod Nearness
+pub mod Bounds

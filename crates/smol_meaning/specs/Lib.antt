@@ -8,3 +8,4 @@ pub mod Crossing
 pub mod Box
 pub mod Seen
 pub mod Moves
+pub mod Folds
