@@ -7,3 +7,4 @@ pub mod Crossings
 pub mod Planes
 pub mod Nearness
 pub mod Bounds
+pub mod Seeing
