@@ -8,3 +8,4 @@ pub mod Planes
 pub mod Nearness
 pub mod Bounds
 pub mod Seeing
+pub mod Ends
