@@ -1,0 +1,11 @@
+pub mod Opening
+pub mod Stepping
+pub mod States
+pub mod Responses
+pub mod Skips
+pub mod Crossings
+pub mod Planes
+pub mod Nearness
+pub mod Bounds
+pub mod Seeing
+pub mod Ends
