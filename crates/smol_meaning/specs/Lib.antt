@@ -17,3 +17,4 @@ pub mod Timing
 pub mod Stretch
 pub mod Commands
 pub mod Run
+pub mod Births
