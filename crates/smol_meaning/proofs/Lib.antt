@@ -1,1 +1,9 @@
 pub mod Births
+pub mod Responses
+pub mod Skips
+pub mod Crossings
+pub mod Planes
+pub mod Nearness
+pub mod Bounds
+pub mod Seeing
+pub mod Ends

@@ -18,3 +18,4 @@ pub mod Stretch
 pub mod Commands
 pub mod Run
 pub mod Births
+pub mod Folds
