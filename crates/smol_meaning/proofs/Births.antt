@@ -17,6 +17,7 @@ use Rattle.smol_types.specs.Sound.{IsSound}
 use Rattle.smol_meaning.specs.declared.event.Fired.{Fired}
 use Rattle.smol_meaning.specs.Births.{IsBirth, IsEvent}
 use Rattle.smol_meaning.specs.Events.{along, births_in, births_of, births_of_event, offset_of, placement_of, products_of}
+use Rattle.smol_meaning.proofs.Kept.{item_at}
 
 -- each product is born, whether or not it is absorbed then
 pub length-births_in : (placement : Placement) (event : Fired) (serial index : ℕ) (products : List Product)
@@ -83,12 +84,6 @@ births_in_are draft placement event serial index count (product ∷ products) us
     let goes = offset_is placement draft.dims event.axis index count (length draft.species) product used placed is in
     All-cons (IsBirth draft) _ _ (record { species = is.species; even = goes.even; size = goes.size; unused = goes.unused })
     (births_in_are draft placement event (serial + 1) (index + 1) count products used placed (All-tail (IsProduct draft.dims (length draft.species)) product products are))
-
--- what holds of each item holds of the one at a place
-item_at : {X : Type 0} (P : X → Type 0) (xs : List X) (number : ℕ) → number < length xs → All P xs → (x : X) × (slice_get xs number ≡ Some x) × P x
-item_at P [] number within all = absurd (omega arith)
-item_at P (x ∷ xs) zero within all = (x, refl, All-head P x xs all)
-item_at P (x ∷ xs) (suc number) within all = item_at P xs number (omega arith) (All-tail P x xs all)
 
 -- the reaction of a number
 pub reaction_at : (draft : Draft) → IsSound draft → (number : ℕ) → number < length draft.reactions → (reaction : Reaction)

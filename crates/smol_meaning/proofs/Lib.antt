@@ -7,3 +7,5 @@ pub mod Nearness
 pub mod Bounds
 pub mod Seeing
 pub mod Ends
+pub mod Kept
+pub mod Diffusing

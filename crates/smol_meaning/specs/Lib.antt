@@ -18,4 +18,5 @@ pub mod Stretch
 pub mod Commands
 pub mod Run
 pub mod Births
+pub mod Placed
 pub mod Folds
