@@ -9,3 +9,4 @@ pub mod Seeing
 pub mod Ends
 pub mod Kept
 pub mod Diffusing
+pub mod Meeting
