@@ -10,3 +10,4 @@ pub mod Ends
 pub mod Kept
 pub mod Diffusing
 pub mod Meeting
+pub mod Reacting

@@ -13,7 +13,7 @@ encounter rank_a a rank_b b reaction = record { a = a; b = b; rank_a = rank_a; r
 
 module _ (P : Encounter → Type 0) (draft : Draft) (seed k : ℕ) where
   -- what holds for each reaction holds for all encounters of two molecules
-  two_all : (rank_a : ℕ) (a : Mol) (rank_b : ℕ) (b : Mol) (number : ℕ) (reactions : List Reaction)
+  pub two_all : (rank_a : ℕ) (a : Mol) (rank_b : ℕ) (b : Mol) (number : ℕ) (reactions : List Reaction)
       → ((r : ℕ) → r < number + length reactions → P (encounter rank_a a rank_b b r))
       → All P (encounters_of_two draft seed k rank_a a rank_b b number reactions)
   two_all rank_a a rank_b b number [] each = All-nil P
@@ -29,7 +29,7 @@ module _ (P : Encounter → Type 0) (draft : Draft) (seed k : ℕ) where
       first false this more = more
 
   -- what holds for each free molecule behind holds for all encounters with them
-  with_all : (rank_a : ℕ) (a : Mol) (rank_b : ℕ) (mols : List Mol)
+  pub with_all : (rank_a : ℕ) (a : Mol) (rank_b : ℕ) (mols : List Mol)
       → ((i r : ℕ) (b : Mol) → slice_get mols i ≡ Some b → is_free draft seed k b ≡ true → r < length draft.reactions → P (encounter rank_a a (rank_b + i) b r))
       → All P (encounters_with draft seed k rank_a a rank_b mols)
   with_all rank_a a rank_b [] each = All-nil P
@@ -44,7 +44,7 @@ module _ (P : Encounter → Type 0) (draft : Draft) (seed k : ℕ) where
       first false free = All-nil P
 
   -- what holds for each two free molecules holds for all encounters
-  from_all : (rank : ℕ) (mols : List Mol)
+  pub from_all : (rank : ℕ) (mols : List Mol)
       → ((i j r : ℕ) (a b : Mol) → slice_get mols i ≡ Some a → slice_get mols j ≡ Some b → i < j → is_free draft seed k a ≡ true → is_free draft seed k b ≡ true
       → r < length draft.reactions → P (encounter (rank + i) a (rank + j) b r))
       → All P (encounters_from draft seed k rank mols)
