@@ -11,3 +11,4 @@ pub mod Kept
 pub mod Diffusing
 pub mod Meeting
 pub mod Reacting
+pub mod Stepping

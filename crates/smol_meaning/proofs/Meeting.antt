@@ -52,19 +52,19 @@ module _ (P : Encounter → Type 0) (draft : Draft) (seed k : ℕ) where
   from_all rank (a ∷ mols) each =
       All-append P _ _ (first (is_free draft seed k a) refl)
       (from_all (rank + 1) mols (λ i j r b c is_b is_c less free_b free_c within.
-        let at_b : rank + suc i ≡ (rank + 1) + i = omega arith in
-        let at_c : rank + suc j ≡ (rank + 1) + j = omega arith in
-        subst (λ n. P (encounter n b ((rank + 1) + j) c r)) at_b
-        (subst (λ n. P (encounter (rank + suc i) b n c r)) at_c (each (suc i) (suc j) r b c is_b is_c (omega arith) free_b free_c within))))
+      let at_b : rank + suc i ≡ (rank + 1) + i = omega arith in
+      let at_c : rank + suc j ≡ (rank + 1) + j = omega arith in
+      subst (λ n. P (encounter n b ((rank + 1) + j) c r)) at_b
+      (subst (λ n. P (encounter (rank + suc i) b n c r)) at_c (each (suc i) (suc j) r b c is_b is_c (omega arith) free_b free_c within))))
     where
       first : (here : Bool) → is_free draft seed k a ≡ here → All P (cond here (encounters_with draft seed k rank a (rank + 1) mols) [])
       first true free =
           with_all rank a (rank + 1) mols
           (λ i r b is free_b within.
-            let at_a : rank + 0 ≡ rank = omega arith in
-            let at_b : rank + suc i ≡ (rank + 1) + i = omega arith in
-            subst (λ n. P (encounter n a ((rank + 1) + i) b r)) at_a
-            (subst (λ n. P (encounter (rank + 0) a n b r)) at_b (each 0 (suc i) r a b refl is (omega arith) free free_b within)))
+          let at_a : rank + 0 ≡ rank = omega arith in
+          let at_b : rank + suc i ≡ (rank + 1) + i = omega arith in
+          subst (λ n. P (encounter n a ((rank + 1) + i) b r)) at_a
+          (subst (λ n. P (encounter (rank + 0) a n b r)) at_b (each 0 (suc i) r a b refl is (omega arith) free free_b within)))
       first false free = All-nil P
 
 -- two free molecules of the list at their ranks, the first before the second, and a reaction that there is
@@ -80,13 +80,13 @@ pub encounters_are : (draft : Draft) (seed k : ℕ) (mols : List Mol) → All (I
 unfolding encounters_of
 encounters_are draft seed k mols =
     from_all (IsEncounter draft seed k mols) draft seed k 0 mols (λ i j r a b is_a is_b less free_a free_b within.
-      let at_a : 0 + i ≡ i = omega arith in
-      let at_b : 0 + j ≡ j = omega arith in
-      record {
-        first = ap (slice_get mols) at_a ∙ is_a;
-        second = ap (slice_get mols) at_b ∙ is_b;
-        apart = omega arith;
-        first_free = free_a;
-        second_free = free_b;
-        reaction = within;
-      })
+    let at_a : 0 + i ≡ i = omega arith in
+    let at_b : 0 + j ≡ j = omega arith in
+    record {
+      first = ap (slice_get mols) at_a ∙ is_a;
+      second = ap (slice_get mols) at_b ∙ is_b;
+      apart = omega arith;
+      first_free = free_a;
+      second_free = free_b;
+      reaction = within;
+    })

@@ -99,8 +99,8 @@ module _ (draft : Draft) (seed k : ℕ) where
   fired_few taken rank (a ∷ mols) =
       first (is_free draft seed k a) (λ taken. fired_few taken (rank + 1) mols)
       (one_fires taken a.serial (map pair_of (encounters_with draft seed k rank a (rank + 1) mols))
-        (All-map (λ (p : Pair). p.a ≡ a.serial) pair_of (encounters_with draft seed k rank a (rank + 1) mols)
-          (with_all (λ (e : Encounter). e.a.serial ≡ a.serial) draft seed k rank a (rank + 1) mols (λ i r b is free within. refl))))
+      (All-map (λ (p : Pair). p.a ≡ a.serial) pair_of (encounters_with draft seed k rank a (rank + 1) mols)
+      (with_all (λ (e : Encounter). e.a.serial ≡ a.serial) draft seed k rank a (rank + 1) mols (λ i r b is free within. refl))))
     where
       first : (here : Bool) → ((taken : ℕ → Bool) → fired taken (map pair_of (encounters_from draft seed k (rank + 1) mols)) ≤ free_count mols)
           → fired taken (map pair_of (encounters_with draft seed k rank a (rank + 1) mols)) ≤ 1
@@ -166,7 +166,7 @@ module _ (draft : Draft) (seed k : ℕ) where
   lone_all P Q mols are each =
       All-filter_map (event_of_one draft seed k) P mols
       (All-weaker Q (λ (mol : Mol). IfSome (event_of_one draft seed k mol) P)
-        (λ (mol : Mol) is. if_event P mol (lone_reaction draft seed k mol) (IfSome_then (lone_reaction draft seed k mol) (lone_reaction_is mol) (λ r within. each mol r is within))) mols are)
+      (λ (mol : Mol) is. if_event P mol (lone_reaction draft seed k mol) (IfSome_then (lone_reaction draft seed k mol) (lone_reaction_is mol) (λ r within. each mol r is within))) mols are)
 
   -- what holds of the event of each two molecules of the list holds of all events of two
   pub two_of_all : (P : Fired → Type 0) (mols : List Mol) → ((e : Encounter) → IsEncounter draft seed k mols e → P (event_of_two draft seed k e))
@@ -174,7 +174,7 @@ module _ (draft : Draft) (seed k : ℕ) where
   two_of_all P mols each =
       All-map P (event_of_two draft seed k) (reactions_of_two draft seed k mols)
       (All-picked (λ (e : Encounter). P (event_of_two draft seed k e)) _ (encounters_of draft seed k mols)
-        (All-weaker (IsEncounter draft seed k mols) (λ (e : Encounter). P (event_of_two draft seed k e)) each (encounters_of draft seed k mols) (encounters_are draft seed k mols)))
+      (All-weaker (IsEncounter draft seed k mols) (λ (e : Encounter). P (event_of_two draft seed k e)) each (encounters_of draft seed k mols) (encounters_are draft seed k mols)))
 
   -- what holds of all holds of the one at a place
   at_place : (P : Mol → Type 0) (mols : List Mol) (i : ℕ) (mol : Mol) → slice_get mols i ≡ Some mol → All P mols → P mol
@@ -187,12 +187,12 @@ module _ (draft : Draft) (seed k : ℕ) where
   events_are sound mols =
       All-append (IsEvent draft) (lone_events draft seed k mols) (map (event_of_two draft seed k) (reactions_of_two draft seed k mols))
       (lone_all (IsEvent draft) (λ _. Unit {0}) mols (λ i d within. tt)
-        (λ mol r is within. record { reaction = within; axis = word_below draft.dims _ sound.dims_above (word_small (key_of_seed seed) mol.serial (32 * k + 19)) }))
+      (λ mol r is within. record { reaction = within; axis = word_below draft.dims _ sound.dims_above (word_small (key_of_seed seed) mol.serial (32 * k + 19)) }))
       (two_of_all (IsEvent draft) mols
-        (λ e is. record {
-          reaction = is.reaction;
-          axis = word_below draft.dims _ sound.dims_above (word_small (key_of_seed seed) (pair_stream e.rank_a e.rank_b) (2048 * k + 2 * e.reaction + 1));
-        }))
+      (λ e is. record {
+        reaction = is.reaction;
+        axis = word_below draft.dims _ sound.dims_above (word_small (key_of_seed seed) (pair_stream e.rank_a e.rank_b) (2048 * k + 2 * e.reaction + 1));
+      }))
 
   start_stands : (most : ℕ) (here : Bool) (a b : Mol) → IsPlaced draft most a → IsPlaced draft most b → StandsWithin draft.dims most (cond here a.place b.place)
   start_stands most true a b first second = first.place
@@ -205,5 +205,5 @@ module _ (draft : Draft) (seed k : ℕ) where
       All-append P (lone_events draft seed k mols) (map (event_of_two draft seed k) (reactions_of_two draft seed k mols))
       (lone_all P (IsPlaced draft most) mols placed (λ mol r is within. is.place))
       (two_of_all P mols
-        (λ e is. start_stands most (nat_le (difstep_of draft e.a.species) (difstep_of draft e.b.species)) e.a e.b
-          (at_place (IsPlaced draft most) mols e.rank_a e.a is.first placed) (at_place (IsPlaced draft most) mols e.rank_b e.b is.second placed)))
+      (λ e is. start_stands most (nat_le (difstep_of draft e.a.species) (difstep_of draft e.b.species)) e.a e.b
+      (at_place (IsPlaced draft most) mols e.rank_a e.a is.first placed) (at_place (IsPlaced draft most) mols e.rank_b e.b is.second placed)))
