@@ -21,3 +21,6 @@ pub mod Nearness
 pub mod Bounds
 pub mod Seeing
 pub mod Ends
+pub mod Opening
+pub mod Places
+pub mod Sights
