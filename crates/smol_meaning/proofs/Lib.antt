@@ -12,15 +12,6 @@ pub mod Diffusing
 pub mod Meeting
 pub mod Reacting
 pub mod Stepping
-pub mod States
-pub mod Responses
-pub mod Skips
-pub mod Crossings
-pub mod Planes
-pub mod Nearness
-pub mod Bounds
-pub mod Seeing
-pub mod Ends
 pub mod Opening
 pub mod Places
 pub mod Sights
