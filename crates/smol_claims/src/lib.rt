@@ -6,11 +6,17 @@
 #![tactic(auto)]
 
 mod claims;
+mod code;
+mod plays;
 mod rule;
+mod settle;
 mod setup;
+mod steps;
 mod view;
+mod worker;
 
 pub use claims::Claims;
 pub use rule::Claiming;
 pub use setup::Setup;
 pub use view::{Link, Look, View};
+pub use worker::Worker;

@@ -18,3 +18,6 @@ pub mod Timing
 pub mod Stretch
 pub mod Commands
 pub mod Run
+pub mod Births
+pub mod Placed
+pub mod Folds

@@ -8,6 +8,7 @@ use Rattle.smol_types.specs.declared.command.Phase.TheVariants.{Before, At, Afte
 use Rattle.smol_types.specs.Steps.{last_step}
 use Rattle.smol_meaning.specs.Commands.{performed}
 use Rattle.smol_meaning.specs.Motion.{Move}
+use Rattle.smol_meaning.specs.Placement.{NoPlace, opening_state}
 use Rattle.smol_meaning.specs.Step.{moves_of, next_state}
 use Rattle.smol_meaning.specs.Stretch.{Stretch, GoesOn, Over, from_state, followed_by, idle, resumed}
 use Rattle.smol_meaning.specs.Timing.{is_due}
@@ -49,3 +50,11 @@ course draft seed opening =
       followed_by (resumed (followed_by (phase_of draft seed Before opening) (steps_from draft seed (steps_of draft))))
       (phase_of draft seed After)
     )
+
+abbrev pub run_from : Draft → ℕ → Result State NoPlace → Result Stretch NoPlace
+run_from draft seed (Ok opening) = Ok (course draft seed opening)
+run_from draft seed (Err none) = Err none
+
+-- the run of a configuration, or the molecule for which no place was found
+unfoldable pub run_of : Draft → ℕ → Result Stretch NoPlace
+run_of draft seed = run_from draft seed (opening_state draft seed)
