@@ -3,3 +3,4 @@ mod Marks
 mod SpeciesCounts
 mod Ranks
 mod Added
+mod Effects

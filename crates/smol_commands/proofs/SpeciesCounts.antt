@@ -1,8 +1,10 @@
 -- Counts of molecules, species by species.
-use Rattle.std.proofs.Common.{◌≡◌, ◌≢◌, ◌≤◌, ◌<◌, ◌+◌, ◌==◌, ℕ, zero, suc, Bool, true, false, if◌then◌else◌, List, [], ◌∷◌, length, get_or, set, take, arith, refl, sym, ap, ◌∙◌, get_or-set_other, get_or-set_same}
+use Rattle.std.proofs.Common.{◌≡◌, ◌≢◌, ◌≤◌, ◌<◌, ◌+◌, ◌==◌, ℕ, zero, suc, Bool, true, false, if◌then◌else◌, List, [], ◌∷◌, ◌++◌, length, get_or, set, take, arith, refl, sym, ap, ◌∙◌, get_or-set_other, get_or-set_same}
 use Rattle.std.proofs.lemmas.Bool.Decides.{nat_tests}
 use Rattle.std.proofs.lemmas.Grind.{same_number_lists}
-use Rattle.std.proofs.lemmas.List.Sums.{count_by-le-length, count_by_more_yes, count_by_more_no}
+use Rattle.std.proofs.lemmas.List.Sums.{count_by-le-length, count_by_more_yes, count_by_more_no, sum_by-append}
+use Rattle.std.proofs.lemmas.List.Elements.{filter_more}
+use Rattle.std.specs.Prelude.{filter}
 use Rattle.smol_types.specs.declared.species.Species.{Species}
 use Rattle.smol_types.specs.declared.state.Mol.{Mol}
 use Rattle.smol_meaning.specs.Lines.{number_of, counts_from}
@@ -49,3 +51,22 @@ one_counted mols i nobody counts count k within there is_count counted =
     rw is_count
     (one_raised counts number k (number == k) there refl ∙ ap (λ (n : ℕ). n + (if number == k then 1 else 0)) counted
     ∙ sym (more_counted mols i nobody k (number == k) within refl))
+
+number_of-one : (seen : List Mol) (mol : Mol) (k : ℕ) → number_of (seen ++ mol ∷ []) k ≡ number_of seen k + (if mol.species == k then 1 else 0)
+number_of-one seen mol k =
+    sum_by-append (λ (mol : Mol). if mol.species == k then 1 else 0) seen (mol ∷ [])
+    ∙ ap (λ n. number_of seen k + n) (omega arith)
+
+-- one molecule more is counted, behind those that were seen
+pub one_more_counted : (seen : List Mol) (mol : Mol) (counts : List ℕ) (count k : ℕ) → mol.species < length counts → count ≡ get_or counts mol.species 0 → get_or counts k 0 ≡ number_of seen k → get_or (set counts mol.species (count + 1)) k 0 ≡ number_of (seen ++ mol ∷ []) k
+one_more_counted seen mol counts count k there is_count counted =
+    rw is_count
+    (one_raised counts mol.species k (mol.species == k) there refl
+    ∙ ap (λ (n : ℕ). n + (if mol.species == k then 1 else 0)) counted
+    ∙ sym (number_of-one seen mol k))
+
+-- the molecules so far that pass, with one more
+pub passed_more : (p : Mol → Bool) (mols : List Mol) (i : ℕ) (nobody : Mol) (is : Bool) → i < length mols → p (get_or mols i nobody) ≡ is → filter p (take (i + 1) mols) ≡ filter p (take i mols) ++ (if is then get_or mols i nobody ∷ [] else [])
+passed_more p mols i nobody is within same =
+    filter_more p mols i nobody within
+    ∙ ap (λ b. filter p (take i mols) ++ (if b then get_or mols i nobody ∷ [] else [])) same

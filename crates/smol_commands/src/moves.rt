@@ -87,7 +87,6 @@ pub fn add_molecules(
 }
 
 // Adds so many molecules with serials from this one on.
-#[tactic(auto, using(crate::proofs::Added::added))]
 fn add_at(mols: &mut Vec<Mol>, first: u64, species: u16, n: u32, place: &Place) -> Result<(), AllocError>
     requires { first + n < 2 ^ 64 }
     ensures { OnOk result (mols.new.items ≡ mols.old.items ++ molecules_at first species place.now n) }

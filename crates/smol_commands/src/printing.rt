@@ -1,13 +1,15 @@
 //! What commands print. Each puts one piece on the page of an outlet.
-ghost use Rattle.std.specs.Prelude.{◌≡◌, ◌≤◌, ◌<◌, ◌++◌, [], ◌∷◌, All, OnOk, filter, flat_map, length, vec_len};
+ghost use Rattle.std.specs.Prelude.{◌≡◌, ◌≤◌, ◌<◌, ◌++◌, ◌^◌, [], ◌∷◌, All, OnOk, filter, flat_map, length, vec_len};
 ghost use Rattle.smol_types.specs.Steps.{last_step};
 ghost use Rattle.smol_types.specs.declared.state.Mol.{Mol as TheMol};
 ghost use Rattle.smol_meaning.specs.Commands.{is_meant};
+ghost use Rattle.smol_meaning.specs.Inside.{is_inside};
+ghost use Rattle.smol_meaning.specs.Sighted.{IsPlaceWithin};
 ghost use Rattle.smol_meaning.specs.Lines.{count_line, counts_from, header_line, mol_line, place_text, positions_line};
 ghost use Rattle.smol_meaning.specs.Timing.{time_of};
 ghost use Rattle.smol_commands.specs.Performs.{Adds};
 
-use crate::counting::counts_of;
+use crate::counting::{counts_inside, counts_of};
 use crate::meant::is_meant;
 use crate::timing::time_of;
 use smol_print::{Pages, add_time, end_line, line_of_counts, line_of_header, line_of_mol, place_behind_space};
@@ -41,6 +43,29 @@ pub fn print_counts(
     print_line(config, time, &counts, outlet, out)
 }
 
+/// Prints the time and the count of each species inside a compartment.
+pub fn print_counts_inside(
+    alloc: Global,
+    config: &Config,
+    compartment: u16,
+    step: u32,
+    mols: &[Mol],
+    outlet: u32,
+    out: &mut Pages,
+) -> Result<(), AllocError>
+    requires outlet { outlet < length out.old }
+    requires compartment { compartment < length config.now.compartments }
+    requires step { step ≤ last_step config.now.start config.now.stop config.now.step }
+    requires species { All (λ (mol : TheMol). mol.species < length config.now.species) mols.now }
+    requires places { All (λ (mol : TheMol). IsPlaceWithin (2 ^ 57) mol.place) mols.now }
+    ensures { OnOk result (Adds ((outlet, count_line (time_of config.now step) (counts_from (filter (λ (mol : TheMol). is_inside config.now compartment mol.place) mols.now) 0 config.now.species)) ∷ []) out.old out.new) }
+{
+    let counts = counts_inside(alloc, config, compartment, mols)?;
+    let time = time_of(config, step);
+    print_line(config, time, &counts, outlet, out)
+}
+
+// Prints the line of a time and counts.
 fn print_line(
     config: &Config,
     time: i64,
