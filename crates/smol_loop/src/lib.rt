@@ -2,7 +2,6 @@
 #![tactic(auto)]
 
 mod run_fault;
-mod simulation;
+mod writing;
 
 pub use run_fault::RunFault;
-pub use simulation::simulate;
