@@ -16,7 +16,7 @@ use Rattle.smol_types.specs.State.{Fits, reach}
 use Rattle.smol_meaning.specs.Sighted.{IsPlaceWithin}
 use Rattle.smol_meaning.specs.Stretch.{Stretch, becomes, idle, prints, stops}
 use Rattle.smol_meaning.proofs.Places.{coordinates_within, place_within_more}
-use Rattle.smol_meaning.proofs.Performing.{KeepsStep, nothing_kept, performed_kept}
+use Rattle.smol_meaning.proofs.Performing.{KeepsStep, PrintsOnce, nothing_kept, nothing_printed, performed_kept, performed_prints}
 use Rattle.smol_commands.specs.declared.flow.Flow.{Flow}
 use Rattle.smol_commands.specs.declared.flow.Flow.TheVariants.{Go, Stop}
 use Rattle.smol_commands.specs.Performs.{Adds, Performs, performed_at}
@@ -74,6 +74,17 @@ found_kept draft seed c state (Some command) sound fits room found =
 -- a command keeps its step: its state fits, and not many serials are given
 pub performed_at_kept : (draft : Draft) (seed c : ℕ) (state : State) → IsSound draft → Fits draft state → state.next + 1000000 ≤ last_serial → KeepsStep draft state 1000000 (performed_at draft seed c state)
 performed_at_kept draft seed c state sound fits room = found_kept draft seed c state (slice_get draft.commands c) sound fits room refl
+
+found_prints : (draft : Draft) (seed c : ℕ) (state : State) (found : Option Command) → IsSound draft → slice_get draft.commands c ≡ found → PrintsOnce (2 + length draft.outputs) (option_map_or (performed draft seed c state) found (idle state))
+found_prints draft seed c state None sound found = nothing_printed (2 + length draft.outputs) state
+found_prints draft seed c state (Some command) sound found =
+    performed_prints draft seed c state command
+    (subst (IsCommand (length draft.species) (length draft.compartments) (length draft.outputs) draft.walls) (get_or_from_slice_get draft.commands c command command found)
+    (sound.commands c command (slice_get_within draft.commands c command found)))
+
+-- a command prints one piece at most, and none where it is over
+pub performed_at_prints : (draft : Draft) (seed c : ℕ) (state : State) → IsSound draft → PrintsOnce (2 + length draft.outputs) (performed_at draft seed c state)
+performed_at_prints draft seed c state sound = found_prints draft seed c state (slice_get draft.commands c) sound refl
 
 -- what performing leaves fits
 pub left_fits : {E : Type 0} (draft : Draft) (seed c : ℕ) (state left : State) (old new : List (List ℕ)) (result : Result Flow E) → IsSound draft → Fits draft state → state.next + 1000000 ≤ last_serial → IfOk result (Performs (performed_at draft seed c state) left old new) → OnOk result (Fits draft left)

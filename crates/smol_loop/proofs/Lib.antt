@@ -1,1 +1,4 @@
 mod OnPages
+mod Joining
+mod Lone
+mod Phases

@@ -1,5 +1,5 @@
 -- What commands keep: each state fits its configuration, serials stay in order, and the step's number stays.
-use Rattle.std.proofs.Common.{◌≡◌, ℕ, zero, suc, ◌+◌, ◌*◌, ◌%◌, ◌≤◌, ◌<◌, ℤ, pos, ◌<ℤ◌, Bool, true, false, not, if◌then◌else◌, List, [], ◌∷◌, ◌++◌, length, All, filter, unsigned_abs, refl, sym, ap, subst, ◌∙◌, arith}
+use Rattle.std.proofs.Common.{◌≡◌, ℕ, zero, suc, ◌+◌, ◌*◌, ◌%◌, ◌≤◌, ◌<◌, ℤ, pos, ◌<ℤ◌, Bool, true, false, not, if◌then◌else◌, List, [], ◌∷◌, ◌++◌, length, All, filter, unsigned_abs, inl, inr, ◌⊎◌, refl, sym, ap, subst, ◌∙◌, arith}
 use Rattle.std.specs.Prelude.{nat_lt, slice_get, Option, None, Some}
 use Rattle.std.specs.List.{list_all}
 use Rattle.std.specs.Option.{option_map_or}
@@ -25,7 +25,7 @@ use Rattle.smol_types.specs.State.{Ascend, Fits, reach}
 use Rattle.smol_types.specs.Walls.{AreBetween, AreWalls, IsAxis, LiesBetween}
 use Rattle.smol_meaning.specs.Commands.{effect_of, filter_ranked, holds_of, is_hit, is_meant, map_ranked, molecules_at, performed, turned_into, with_mols, with_more}
 use Rattle.smol_meaning.specs.Placed.{IsPlaced, StandsWithin}
-use Rattle.smol_meaning.specs.Stretch.{Stretch, becomes, idle, is_over, prints, stops}
+use Rattle.smol_meaning.specs.Stretch.{Stretch, Over, becomes, idle, is_over, prints, stops}
 use Rattle.smol_meaning.proofs.Diffusing.{Fits-placed}
 use Rattle.smol_meaning.proofs.Kept.{Ascend-append, Ascend-filter, Ascend-from}
 
@@ -210,3 +210,41 @@ performed_kept draft seed c state command sound fits room is =
     elim (list_all (holds_of state.mols) command.tests) as
     (λ held. KeepsStep draft state 1000000 (if held then effect_of draft seed c state command.act else idle state))
     [ true ↦ effect_kept draft seed c state command.act sound fits room is.does | false ↦ nothing_kept draft state fits ]
+
+-- a part of a run that prints one piece at most, to an outlet that there is, and none where it is over
+pub record PrintsOnce (count : ℕ) (stretch : Stretch) : Type 0 where
+  pub pieces : (stretch.pieces ≡ []) ⊎ ((out : ℕ) × (text : List ℕ) × (out < count) × (stretch.pieces ≡ (out, text) ∷ []))
+  pub over : (step : ℕ) → stretch.ending ≡ Over step → stretch.pieces ≡ []
+
+piece_printed : (count : ℕ) (state : State) (out : ℕ) (text : List ℕ) → out < count → PrintsOnce count (prints state out text)
+piece_printed count state out text within = record { pieces = inr (out, text, within, refl); over = λ step over. cc over }
+
+silent : (count : ℕ) (stretch : Stretch) → stretch.pieces ≡ [] → PrintsOnce count stretch
+silent count stretch none = record { pieces = inl none; over = λ step over. none }
+
+over_or_silent : (count : ℕ) (over : Bool) (first second : Stretch) → first.pieces ≡ [] → second.pieces ≡ [] → PrintsOnce count (if over then first else second)
+over_or_silent count true first second none_first none_second = silent count first none_first
+over_or_silent count false first second none_first none_second = silent count second none_second
+
+pub effect_prints : (draft : Draft) (seed c : ℕ) (state : State) (does : Act) → IsAct (length draft.species) (length draft.compartments) (length draft.outputs) draft.walls does → PrintsOnce (2 + length draft.outputs) (effect_of draft seed c state does)
+unfolding effect_of
+effect_prints draft seed c state (act.CountHeader out) does = piece_printed _ state out _ does
+effect_prints draft seed c state (act.Count out) does = piece_printed _ state out _ does
+effect_prints draft seed c state (act.CountIn compartment out) does = piece_printed _ state out _ does.1
+effect_prints draft seed c state (act.List out) does = piece_printed _ state out _ does
+effect_prints draft seed c state (act.Positions who out) does = piece_printed _ state out _ does.1
+effect_prints draft seed c state (act.Echo out text) does = piece_printed _ state out _ does
+effect_prints draft seed c state (act.Kill who) does = silent _ _ refl
+effect_prints draft seed c state (act.KillProb who p) does = silent _ _ refl
+effect_prints draft seed c state (act.Replace who to p) does = silent _ _ refl
+effect_prints draft seed c state (act.PointSource species n place) does = over_or_silent _ (nat_lt draft.max_mol (length state.mols + n)) _ _ refl refl
+effect_prints draft seed c state act.Stop does = silent _ _ refl
+
+pub performed_prints : (draft : Draft) (seed c : ℕ) (state : State) (command : Command) → IsCommand (length draft.species) (length draft.compartments) (length draft.outputs) draft.walls command → PrintsOnce (2 + length draft.outputs) (performed draft seed c state command)
+performed_prints draft seed c state command is =
+    elim (list_all (holds_of state.mols) command.tests) as
+    (λ held. PrintsOnce (2 + length draft.outputs) (if held then effect_of draft seed c state command.act else idle state))
+    [ true ↦ effect_prints draft seed c state command.act is.does | false ↦ silent _ (idle state) refl ]
+
+pub nothing_printed : (count : ℕ) (state : State) → PrintsOnce count (idle state)
+nothing_printed count state = silent count (idle state) refl
