@@ -16,4 +16,3 @@ pub mod Opening
 pub mod Places
 pub mod Sights
 pub mod Performing
-pub mod Course
