@@ -1,6 +1,4 @@
-pub mod Opening
-pub mod Stepping
-pub mod States
+pub mod Births
 pub mod Responses
 pub mod Skips
 pub mod Crossings
@@ -9,3 +7,11 @@ pub mod Nearness
 pub mod Bounds
 pub mod Seeing
 pub mod Ends
+pub mod Kept
+pub mod Diffusing
+pub mod Meeting
+pub mod Reacting
+pub mod Stepping
+pub mod Opening
+pub mod Places
+pub mod Sights

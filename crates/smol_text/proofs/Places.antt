@@ -7,9 +7,9 @@ use Rattle.std.proofs.lemmas.List.Elements.{All-nil, All-cons, All-append}
 use Rattle.std.proofs.lemmas.List.Sums.{prefix_len-le-length, sum_by-cons}
 use Rattle.smol_text.specs.declared.line.Span.{Span}
 use Rattle.smol_text.specs.declared.line.Line.{Line}
-use Rattle.smol_text.specs.Lines.{begins_comment, is_line_feed, separates, without_empty_last, has_bytes, raw_lines, uncommented, words}
+use Rattle.smol_text.specs.Lines.{begins_comment, is_line_feed, separates, without_empty_last, has_bytes, raw_lines, uncommented, words, words_in}
 use Rattle.smol_text.specs.Reading.{is_read, stated_if}
-use Rattle.smol_text.specs.Spans.{slice_of, IsWithin, AllWithin, places_of_pieces, places, placed_if, start_of, stated_at, lines_from, lines_of}
+use Rattle.smol_text.specs.Spans.{slice_of, IsWithin, AllWithin, IsSpelled, places_of_pieces, places, part_place, placed_if, placed_at, start_of, stated_at, lines_from, lines_of}
 
 -- the pieces stand in the text, the first one at `at`, with one byte between each two
 abbrev pub StandAt : List ℕ → ℕ → List (List ℕ) → Type 0
@@ -83,32 +83,60 @@ StandAt-line text at line here within =
 
 -- the bytes at the places of a line's words are its words
 pub map-places : (text : List ℕ) (at : ℕ) (line : List ℕ) → take (length line) (drop at text) ≡ line → at + length line ≤ length text → map (slice_of text) (places at line) ≡ words line
+unfolding words_in
 map-places text at line here within =
     map-places_of_pieces text at (slice_split separates (uncommented line)) (StandAt-line text at line here within)
 
+-- the part of a line before its comment stands in the text where the line does
+part_at : (text : List ℕ) (at : ℕ) (line : List ℕ) → take (length line) (drop at text) ≡ line → slice_of text (part_place at line) ≡ uncommented line
+part_at text at line here =
+    let most : position_or_len begins_comment line ≤ length line = prefix_len-le-length _ line in
+    let size : at + length (uncommented line) - at ≡ length (uncommented line) = omega arith in
+    ap (λ n. take n (drop at text)) size ∙ take-stands text at (position_or_len begins_comment line) line most here
+
+-- and it is no longer than the line
+length-uncommented : (line : List ℕ) → length (uncommented line) ≤ length line
+length-uncommented line =
+    let most : position_or_len begins_comment line ≤ length line = prefix_len-le-length _ line in
+    omega (arith, length-take-le (position_or_len begins_comment line) line most)
+
+placed_if-stated : (text : List ℕ) (read : Bool) (number : ℕ) (part : Span) (spans : List Span) (words : List (List ℕ)) → map (slice_of text) spans ≡ words → map (stated_at text) (placed_if read number part spans) ≡ stated_if read number (slice_of text part) words
+placed_if-stated text false number part spans words same = refl
+placed_if-stated text true number part [] words same = ap (stated_if true number (slice_of text part)) same
+placed_if-stated text true number part (span ∷ spans) words same = ap (stated_if true number (slice_of text part)) same
+
 -- a line that makes a statement says what it states
-pub map-placed_if : (text : List ℕ) (read : Bool) (number : ℕ) (spans : List Span) → map (stated_at text) (placed_if read number spans) ≡ stated_if read number (map (slice_of text) spans)
-map-placed_if text false number spans = refl
-map-placed_if text true number [] = refl
-map-placed_if text true number (span ∷ spans) = refl
+pub map-placed_at : (text : List ℕ) (read : Bool) (number at : ℕ) (line : List ℕ) → take (length line) (drop at text) ≡ line → at + length line ≤ length text → map (stated_at text) (placed_at read number at line) ≡ stated_if read number (uncommented line) (words line)
+map-placed_at text read number at line here within =
+    placed_if-stated text read number (part_place at line) (places at line) (words line) (map-places text at line here within)
+    ∙ ap (λ part. stated_if read number part (words line)) (part_at text at line here)
 
-AllWithin-placed_if : (text : List ℕ) (read : Bool) (number : ℕ) (spans : List Span) → AllWithin text spans → All (λ (line : Line). AllWithin text line.words) (placed_if read number spans)
-AllWithin-placed_if text false number spans h = All-nil (λ (line : Line). AllWithin text line.words)
-AllWithin-placed_if text true number [] h = All-nil (λ (line : Line). AllWithin text line.words)
-AllWithin-placed_if text true number (span ∷ spans) h =
-    All-cons (λ (line : Line). AllWithin text line.words) (record { number = number; words = span ∷ spans }) [] h (All-nil (λ (line : Line). AllWithin text line.words))
+AllSpelled-placed_if : (text : List ℕ) (read : Bool) (number : ℕ) (part : Span) (spans : List Span) → IsSpelled text (record { number = number; part = part; words = spans }) → All (IsSpelled text) (placed_if read number part spans)
+AllSpelled-placed_if text false number part spans h = All-nil (IsSpelled text)
+AllSpelled-placed_if text true number part [] h = All-nil (IsSpelled text)
+AllSpelled-placed_if text true number part (span ∷ spans) h =
+    All-cons (IsSpelled text) (record { number = number; part = part; words = span ∷ spans }) [] h (All-nil (IsSpelled text))
 
-AllWithin-lines_from : (text : List ℕ) (before lines : List (List ℕ)) → StandAt text (start_of before) lines → All (λ (line : Line). AllWithin text line.words) (lines_from before lines)
-AllWithin-lines_from text before [] h = All-nil (λ (line : Line). AllWithin text line.words)
-AllWithin-lines_from text before (line ∷ lines) h =
+AllSpelled-placed_at : (text : List ℕ) (read : Bool) (number at : ℕ) (line : List ℕ) → take (length line) (drop at text) ≡ line → at + length line ≤ length text → All (IsSpelled text) (placed_at read number at line)
+AllSpelled-placed_at text read number at line here within =
+    AllSpelled-placed_if text read number (part_place at line) (places at line) (record {
+      ordered = omega arith;
+      ends = omega (arith, length-uncommented line);
+      within = AllWithin-places_of_pieces text at (slice_split separates (uncommented line)) (StandAt-line text at line here within);
+      words = map-places text at line here within ∙ ap words_in (sym (part_at text at line here));
+    })
+
+AllSpelled-lines_from : (text : List ℕ) (before lines : List (List ℕ)) → StandAt text (start_of before) lines → All (IsSpelled text) (lines_from before lines)
+AllSpelled-lines_from text before [] h = All-nil (IsSpelled text)
+AllSpelled-lines_from text before (line ∷ lines) h =
     let read = is_read before line in
     let number = length before + 1 in
     let next : start_of before + length line + 1 ≡ start_of (line ∷ before) = omega (arith, sum_by-cons (λ (l : List ℕ). length l + 1) line before) in
-    All-append (λ (l : Line). AllWithin text l.words) (placed_if read number (places (start_of before) line)) (lines_from (line ∷ before) lines)
-    (AllWithin-placed_if text read number (places (start_of before) line) (AllWithin-places_of_pieces text (start_of before) (slice_split separates (uncommented line)) (StandAt-line text (start_of before) line h.0 h.1)))
-    (AllWithin-lines_from text (line ∷ before) lines (subst (λ n. StandAt text n lines) next h.2))
+    All-append (IsSpelled text) (placed_at read number (start_of before) line) (lines_from (line ∷ before) lines)
+    (AllSpelled-placed_at text read number (start_of before) line h.0 h.1)
+    (AllSpelled-lines_from text (line ∷ before) lines (subst (λ n. StandAt text n lines) next h.2))
 
--- the words of a text's lines stand within the text
-pub AllWithin-lines_of : (text : List ℕ) → All (λ (line : Line). AllWithin text line.words) (lines_of text)
+-- the lines of a text are spelled in it
+pub AllSpelled-lines_of : (text : List ℕ) → All (IsSpelled text) (lines_of text)
 unfolding lines_of
-AllWithin-lines_of text = AllWithin-lines_from text [] (raw_lines text) (StandAt-raw_lines text)
+AllSpelled-lines_of text = AllSpelled-lines_from text [] (raw_lines text) (StandAt-raw_lines text)

@@ -4,7 +4,7 @@ use Rattle.std.specs.List.{slice_split, slice_get, position, position_or_len, be
 use Rattle.std.proofs.lemmas.List.{length-take-le, length-drop, drop-drop, take_all}
 use Rattle.std.proofs.lemmas.List.Sums.{prefix_len-le-length}
 use Rattle.smol_text.specs.declared.line.Span.{Span}
-use Rattle.smol_text.specs.Lines.{is_line_feed, separates, pieces_of, raw_lines, uncommented}
+use Rattle.smol_text.specs.Lines.{is_line_feed, separates, words_in, raw_lines, uncommented}
 use Rattle.smol_text.specs.Reading.{first_word}
 use Rattle.smol_text.specs.Spans.{place_of_piece, places_of_pieces}
 use Rattle.smol_text.proofs.Pieces.{unwrap_or-position, places-step, raw_lines-step, first_piece}
@@ -64,10 +64,11 @@ place_of_piece-between line at start n some is_n =
 
 -- the first word of a line, from where its first byte stands that separates no words to before the next separator
 pub first_word-at : (line part : List ℕ) (start size : ℕ) → part ≡ uncommented line → start ≡ position_or_len (λ b. not (separates b)) part → size ≡ position_or_len separates (drop start part) → take size (take (length part - start) (drop start part)) ≡ first_word line
+unfolding words_in
 first_word-at line part start size is_part is_start is_size =
     let whole : take (length part - start) (drop start part) ≡ drop start part = take_all (length part - start) (drop start part) (omega (arith, length-drop start part)) in
     ap (take size) whole
     ∙ ap (λ k. take k (drop start part)) is_size
     ∙ ap (λ k. before_first separates (drop k part)) is_start
     ∙ sym (first_piece separates part)
-    ∙ ap (λ xs. unwrap_or (slice_get (pieces_of xs) 0) []) is_part
+    ∙ ap (λ xs. unwrap_or (slice_get (words_in xs) 0) []) is_part

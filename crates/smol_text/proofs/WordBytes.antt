@@ -4,14 +4,10 @@ use Rattle.std.specs.List.{slice_split, onto_first, list_all, All, filter}
 use Rattle.std.proofs.lemmas.Bool.{cond_both}
 use Rattle.std.proofs.lemmas.Bool.Decides.{nat_tests}
 use Rattle.std.proofs.lemmas.List.Elements.{All-nil, All-cons, All-head, All-tail, All-append}
-use Rattle.smol_text.specs.declared.line.Line.{Line}
 use Rattle.smol_text.specs.declared.standing.Standing.{Standing}
 use Rattle.smol_text.specs.declared.standing.Standing.TheVariants.{Open, Commented, Ended}
-use Rattle.smol_text.specs.declared.text_fault.TextFault.{TextFault}
-use Rattle.smol_text.specs.declared.text_fault.TextFault.TheVariants.{BadByte, TooManyLines}
-use Rattle.smol_text.specs.Lines.{separates, has_bytes, raw_lines, uncommented, words, IsWord}
-use Rattle.smol_text.specs.Reading.{Stated, is_open, is_ended, is_allowed, standing, is_read, line_fault, stated_if, behind, end_fault, statements_from, statements_of}
-use Rattle.smol_text.specs.Spans.{slice_of, LinedText, stated_at, stated_lines, words_at}
+use Rattle.smol_text.specs.Lines.{separates, has_bytes, raw_lines, uncommented, words, words_in, IsWord}
+use Rattle.smol_text.specs.Reading.{Stated, LinesFault, bad_byte, too_many_lines, words_of, stated, is_open, is_ended, is_allowed, standing, is_read, line_fault, stated_if, behind, end_fault, statements_from, statements_of}
 
 -- a byte that can be seen
 abbrev pub IsSeen : ℕ → Type 0
@@ -50,20 +46,21 @@ AllWords-filter ((b ∷ bs) ∷ pieces) h =
 
 -- the words of a line whose bytes are allowed can be seen
 AllWords-words : (line : List ℕ) → list_all is_allowed (uncommented line) ≡ true → All IsWord (words line)
+unfolding words_in
 AllWords-words line allowed = AllWords-filter (slice_split separates (uncommented line)) (AllSeen-slice_split (uncommented line) allowed)
 
 -- a statement's words can be seen
 abbrev pub IsSeenStatement : Stated → Type 0
-IsSeenStatement statement = All IsWord statement.words
+IsSeenStatement statement = All IsWord (words_of statement)
 
-All-stated_if : (read : Bool) (number : ℕ) (words : List (List ℕ)) → (read ≡ true → All IsWord words) → All IsSeenStatement (stated_if read number words)
-All-stated_if false number words h = All-nil IsSeenStatement
-All-stated_if true number [] h = All-nil IsSeenStatement
-All-stated_if true number (word ∷ words) h =
-    All-cons IsSeenStatement (record { number = number; words = word ∷ words }) [] (h refl) (All-nil IsSeenStatement)
+All-stated_if : (read : Bool) (number : ℕ) (part : List ℕ) (words : List (List ℕ)) → (read ≡ true → All IsWord (words_in part)) → All IsSeenStatement (stated_if read number part words)
+All-stated_if false number part words h = All-nil IsSeenStatement
+All-stated_if true number part [] h = All-nil IsSeenStatement
+All-stated_if true number part (word ∷ words) h =
+    All-cons IsSeenStatement (record { number = number; part = part }) [] (h refl) (All-nil IsSeenStatement)
 
 -- a line that is read and has no fault has allowed bytes
-allowed_from_no_fault : (ended many read allowed : Bool) (many_fault byte_fault : TextFault) → (if ended then None else (if many then Some many_fault else (if read && not allowed then Some byte_fault else None))) ≡ None → ended ≡ false → read ≡ true → allowed ≡ true
+allowed_from_no_fault : (ended many read allowed : Bool) (many_fault byte_fault : LinesFault) → (if ended then None else (if many then Some many_fault else (if read && not allowed then Some byte_fault else None))) ≡ None → ended ≡ false → read ≡ true → allowed ≡ true
 allowed_from_no_fault ended many read true f g none stands reads = refl
 allowed_from_no_fault true many read false f g none stands reads = absurd cc
 allowed_from_no_fault false true read false f g none stands reads = absurd cc
@@ -78,9 +75,9 @@ not_ended Ended stands = absurd cc
 allowed_of_line : (before : List (List ℕ)) (line : List ℕ) → line_fault before line ≡ None → is_read before line ≡ true → list_all is_allowed (uncommented line) ≡ true
 allowed_of_line before line none read =
     let both = both_true (is_open (standing before)) (is_open (standing (line ∷ before))) read in
-    allowed_from_no_fault (is_ended (standing before)) (length before == 65536) (is_read before line) (list_all is_allowed (uncommented line)) TooManyLines (BadByte (length before + 1)) none (not_ended (standing before) both.0) read
+    allowed_from_no_fault (is_ended (standing before)) (length before == 65536) (is_read before line) (list_all is_allowed (uncommented line)) too_many_lines (bad_byte (length before + 1)) none (not_ended (standing before) both.0) read
 
-IfOk-behind : (fault : Option TextFault) (statements : List Stated) (rest : Result (List Stated) TextFault) → (fault ≡ None → All IsSeenStatement statements) → IfOk rest (All IsSeenStatement) → IfOk (behind fault statements rest) (All IsSeenStatement)
+IfOk-behind : (fault : Option LinesFault) (statements : List Stated) (rest : Result (List Stated) LinesFault) → (fault ≡ None → All IsSeenStatement statements) → IfOk rest (All IsSeenStatement) → IfOk (behind fault statements rest) (All IsSeenStatement)
 IfOk-behind (Some fault) statements rest here more = tt
 IfOk-behind None statements (Ok rest) here more = All-append IsSeenStatement statements rest (here refl) more
 IfOk-behind None statements (Err fault) here more = tt
@@ -93,8 +90,8 @@ IfOk-end_fault Ended = All-nil IsSeenStatement
 IfOk-statements_from : (before lines : List (List ℕ)) → IfOk (statements_from before lines) (All IsSeenStatement)
 IfOk-statements_from before [] = IfOk-end_fault (standing before)
 IfOk-statements_from before (line ∷ lines) =
-    IfOk-behind (line_fault before line) (stated_if (is_read before line) (length before + 1) (words line)) (statements_from (line ∷ before) lines)
-    (λ none. All-stated_if (is_read before line) (length before + 1) (words line) (λ read. AllWords-words line (allowed_of_line before line none read)))
+    IfOk-behind (line_fault before line) (stated before line) (statements_from (line ∷ before) lines)
+    (λ none. All-stated_if (is_read before line) (length before + 1) (uncommented line) (words line) (λ read. AllWords-words line (allowed_of_line before line none read)))
     (IfOk-statements_from (line ∷ before) lines)
 
 -- the words of a text's statements can be seen
@@ -102,12 +99,3 @@ pub AllSeen-statements_of : (text : List ℕ) (statements : List Stated) → sta
 unfolding statements_of
 AllSeen-statements_of text statements is =
     subst (λ r. IfOk r (All IsSeenStatement)) is (IfOk-statements_from [] (raw_lines text))
-
-AllWords-at : (bytes : List ℕ) (lines : List Line) (k : ℕ) → All IsSeenStatement (map (stated_at bytes) lines) → All IsWord (slice_index_or (map (λ (line : Line). map (slice_of bytes) line.words) lines) k [])
-AllWords-at bytes [] k h = All-nil IsWord
-AllWords-at bytes (line ∷ lines) zero h = All-head IsSeenStatement (stated_at bytes line) (map (stated_at bytes) lines) h
-AllWords-at bytes (line ∷ lines) (suc k) h = AllWords-at bytes lines k (All-tail IsSeenStatement (stated_at bytes line) (map (stated_at bytes) lines) h)
-
--- so can the words at any index
-pub AllWords-words_at : (text : LinedText) (index : ℕ) → statements_of text.bytes ≡ Ok (stated_lines text) → All IsWord (words_at text index)
-AllWords-words_at text index is = AllWords-at text.bytes text.lines index (AllSeen-statements_of text.bytes (stated_lines text) is)

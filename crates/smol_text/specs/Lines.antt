@@ -33,13 +33,13 @@ abbrev pub has_bytes : List ℕ → Bool
 has_bytes [] = false
 has_bytes (b ∷ bs) = true
 
--- the pieces between separators that aren't empty
-abbrev pub pieces_of : List ℕ → List (List ℕ)
-pieces_of part = filter has_bytes (slice_split separates part)
+-- the words of the part of a line before its comment: what stands between separators, and isn't empty
+unfoldable pub words_in : List ℕ → List (List ℕ)
+words_in part = filter has_bytes (slice_split separates part)
 
--- the words of a line: what stands between separators before the comment, and isn't empty
+-- the words of a line
 abbrev pub words : List ℕ → List (List ℕ)
-words line = pieces_of (uncommented line)
+words line = words_in (uncommented line)
 
 -- a word that can be seen: it isn't empty, and has bytes 33 to 126 only
 pub record IsWord (word : List ℕ) : Type 0 where

@@ -1,9 +1,9 @@
 -- Where the words of a text stand.
-use Rattle.std.specs.Prelude.{ℕ, ◌+◌, ◌<◌, ◌≤◌, Bool, true, false, All, List, [], ◌∷◌, ◌++◌, length, map, sum_by, slice_index_or}
+use Rattle.std.specs.Prelude.{◌≡◌, ℕ, ◌+◌, ◌<◌, ◌≤◌, Bool, true, false, All, List, [], ◌∷◌, ◌++◌, length, map, sum_by}
 use Rattle.std.specs.List.{slice_range, slice_split}
 use Rattle.smol_text.specs.declared.line.Span.{Span}
 use Rattle.smol_text.specs.declared.line.Line.{Line}
-use Rattle.smol_text.specs.Lines.{separates, raw_lines, uncommented}
+use Rattle.smol_text.specs.Lines.{separates, raw_lines, uncommented, words_in}
 use Rattle.smol_text.specs.Reading.{Stated, is_read}
 
 -- the bytes of a text from a span's start to before its end
@@ -37,17 +37,25 @@ places at line = places_of_pieces at (slice_split separates (uncommented line))
 abbrev pub start_of : List (List ℕ) → ℕ
 start_of before = sum_by (λ line. length line + 1) before
 
+-- where the part of a line before its comment stands, whose first byte stands at `at`
+abbrev pub part_place : ℕ → List ℕ → Span
+part_place at line = record { start = at; end = at + length (uncommented line) }
+
 -- the line that makes a statement, where it is read and has a word
-abbrev pub placed_if : Bool → ℕ → List Span → List Line
-placed_if false number places = []
-placed_if true number [] = []
-placed_if true number (place ∷ places) = record { number = number; words = place ∷ places } ∷ []
+abbrev pub placed_if : Bool → ℕ → Span → List Span → List Line
+placed_if false number part places = []
+placed_if true number part [] = []
+placed_if true number part (place ∷ places) = record { number = number; part = part; words = place ∷ places } ∷ []
+
+-- the same of a line whose first byte stands at `at`
+abbrev pub placed_at : Bool → ℕ → ℕ → List ℕ → List Line
+placed_at read number at line = placed_if read number (part_place at line) (places at line)
 
 -- the lines that make statements, reading on behind these lines
 abbrev pub lines_from : List (List ℕ) → List (List ℕ) → List Line
 lines_from before [] = []
 lines_from before (line ∷ lines) =
-    placed_if (is_read before line) (length before + 1) (places (start_of before) line) ++ lines_from (line ∷ before) lines
+    placed_at (is_read before line) (length before + 1) (start_of before) line ++ lines_from (line ∷ before) lines
 
 -- the lines of a text that make statements, each with its number and the places of its words in the text
 unfoldable pub lines_of : List ℕ → List Line
@@ -58,22 +66,21 @@ pub record LinedText : Type 0 where
   pub bytes : List ℕ
   pub lines : List Line
 
--- a line's number, and its words read off a text at their places
+-- a line's number, and its part before the comment read off a text at its place
 abbrev pub stated_at : List ℕ → Line → Stated
-stated_at bytes line = record { number = line.number; words = map (slice_of bytes) line.words }
+stated_at bytes line = record { number = line.number; part = slice_of bytes line.part }
 
 -- the statements of a text's lines
 abbrev pub stated_lines : LinedText → List Stated
 stated_lines text = map (stated_at text.bytes) text.lines
 
--- the words of each statement of a text
-abbrev pub words_of : LinedText → List (List (List ℕ))
-words_of text = map (λ (line : Line). map (slice_of text.bytes) line.words) text.lines
+-- a line stands in the text, and what stands at the places of its words are the words of its part before the comment
+pub record IsSpelled (bytes : List ℕ) (line : Line) : Type 0 where
+  pub ordered : line.part.start ≤ line.part.end
+  pub ends : line.part.end ≤ length bytes
+  pub within : AllWithin bytes line.words
+  pub words : map (slice_of bytes) line.words ≡ words_in (slice_of bytes line.part)
 
--- the words of the statement at an index, and none past the last statement
-abbrev pub words_at : LinedText → ℕ → List (List ℕ)
-words_at text index = slice_index_or (words_of text) index []
-
--- each line's words stand within the text
-abbrev pub LinesWithin : LinedText → Type 0
-LinesWithin text = All (λ (line : Line). AllWithin text.bytes line.words) text.lines
+-- each line of a text is such
+abbrev pub AllSpelled : LinedText → Type 0
+AllSpelled text = All (IsSpelled text.bytes) text.lines

@@ -2,16 +2,14 @@
 #![tactic(auto)]
 
 mod line;
-mod line_words;
 mod split;
 mod standing;
-mod statement;
+mod stated_line;
 mod text;
 mod text_fault;
 
 pub use line::{Line, Span, Words};
-pub use line_words::LineWords;
 pub use split::split_lines;
-pub use statement::Statement;
+pub use stated_line::StatedLine;
 pub use text::Text;
 pub use text_fault::TextFault;

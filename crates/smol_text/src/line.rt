@@ -65,5 +65,7 @@ impl From<Words> for Vec<Span> {
 #[derive(Debug, Drop)]
 pub struct Line {
     pub number: u32,
+    /// Its part before the comment.
+    pub part: Span,
     pub words: Words,
 }

@@ -2,8 +2,8 @@
 ghost use Rattle.std.specs.Prelude.{◌≡◌, ◌≢◌, ◌+◌, ◌++◌, ◌^◌, ◌≤◌, length, not, true, false, is_ok, IsTrue, OnOk, IfOk, IfErr};
 ghost use Rattle.std.specs.List.{list_all, position, slice_split};
 ghost use Rattle.smol_text.specs.Lines.{begins_comment, is_line_feed, separates, uncommented};
-ghost use Rattle.smol_text.specs.Reading.{first_word, is_allowed, statements_of};
-ghost use Rattle.smol_text.specs.Spans.{places, places_of_pieces, placed_if, lines_of, stated_lines};
+ghost use Rattle.smol_text.specs.Reading.{first_word, is_allowed, statements_of, TellsLines};
+ghost use Rattle.smol_text.specs.Spans.{places_of_pieces, placed_at, lines_of, stated_lines};
 
 use crate::line::{Line, Span, Words};
 use crate::standing::Standing;
@@ -24,7 +24,7 @@ pub fn split_lines(alloc: Global, bytes: &[u8]) -> Result<Text, TextFault>
     ensures bytes { IfOk result (λ text. text.bytes ≡ bytes.now) }
     ensures statements { IfOk result (λ text. statements_of bytes.now ≡ Ok (stated_lines text)) }
     ensures places { IfOk result (λ text. text.lines ≡ lines_of bytes.now) }
-    ensures refused { IfErr result (λ fault. fault ≢ TextFault.OutOfMemory → statements_of bytes.now ≡ Err fault) }
+    ensures refused { IfErr result (λ fault. TellsLines fault (statements_of bytes.now)) }
 {
     let lines = find_lines(alloc, bytes)?;
     let bytes = Vec::from_slice(alloc, bytes)?;
@@ -36,7 +36,7 @@ fn find_lines(alloc: Global, bytes: &[u8]) -> Result<Vec<Line>, TextFault>
     requires { length bytes.now ≤ 4194304 }
     ensures lines { IfOk result (λ lines. lines.items ≡ lines_of bytes.now) }
     ensures accepted { IfOk result (λ _. IsTrue (is_ok (statements_of bytes.now))) }
-    ensures refused { IfErr result (λ fault. fault ≢ TextFault.OutOfMemory → statements_of bytes.now ≡ Err fault) }
+    ensures refused { IfErr result (λ fault. TellsLines fault (statements_of bytes.now)) }
 {
     let mut lines = Vec::new(alloc);
     let mut standing = Standing::Open;
@@ -72,7 +72,7 @@ fn keep_statement(
     at: usize,
 ) -> Result<(), TextFault>
     requires { at + length line.now ≤ 4194304 }
-    ensures kept { OnOk result (lines.new.items ≡ lines.old.items ++ placed_if true number (places at line.now)) }
+    ensures kept { OnOk result (lines.new.items ≡ lines.old.items ++ placed_at true number at line.now) }
     ensures allowed { OnOk result (list_all is_allowed (uncommented line.now) ≡ true) }
     ensures refused { IfErr result (λ fault. fault ≢ TextFault.OutOfMemory → fault ≡ TextFault.BadByte number) }
     ensures not_allowed { IfErr result (λ fault. fault ≢ TextFault.OutOfMemory → list_all is_allowed (uncommented line.now) ≡ false) }
@@ -83,7 +83,15 @@ fn keep_statement(
     }
     let words = find_words(alloc, part, at as u32)?;
     if !words.is_empty() {
-        lines.push(Line { number, words })?;
+        let part = Span {
+            start: at as u32,
+            end: (at + part.len()) as u32,
+        };
+        lines.push(Line {
+            number,
+            part,
+            words,
+        })?;
     }
     Ok(())
 }
@@ -184,12 +192,13 @@ mod tests {
     fn only_the_word_itself_opens_and_closes(rt: HostRuntime) -> Result<(), Fail> {
         let text = split_lines(rt.alloc(), b"/*x\n/*#y\n*/z\n*/ rest\n\n \"a b # c\" d")?;
         assert_eq!(rt; text.len(), 2);
-        assert_eq!(rt; text.number(0), 1);
-        let first = text.words_of(0);
+        let first = text.line(0);
+        assert_eq!(rt; first.number(), 1);
         assert_eq!(rt; first.len(), 1);
         assert_eq!(rt; first.word(0), b"/*x".as_slice());
-        assert_eq!(rt; text.number(1), 6);
-        let last = text.words_of(1);
+        let last = text.line(1);
+        assert_eq!(rt; last.number(), 6);
+        assert_eq!(rt; last.part(), b" \"a b ".as_slice());
         assert_eq!(rt; last.len(), 2);
         assert_eq!(rt; last.word(0), b"\"a".as_slice());
         Ok(())
@@ -199,7 +208,7 @@ mod tests {
     fn bytes_behind_the_end_are_not_seen(rt: HostRuntime) -> Result<(), Fail> {
         let text = split_lines(rt.alloc(), b"a \r\nend_file \0\n\0")?;
         assert_eq!(rt; text.len(), 1);
-        assert_eq!(rt; text.words_of(0).len(), 1);
+        assert_eq!(rt; text.line(0).len(), 1);
         let refused = split_lines(rt.alloc(), b"a\n\0 end_file").err();
         assert_eq!(rt; refused, Some(TextFault::BadByte { line: 2 }));
         Ok(())

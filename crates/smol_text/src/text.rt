@@ -1,16 +1,15 @@
 //! A text that is split into the lines that make statements.
-ghost use Rattle.std.specs.Prelude.{◌≡◌, ◌+◌, ◌<◌, ◌∷◌, ◌==◌, All, length, drop, map, slice_get, slice_index_or, []};
+ghost use Rattle.std.specs.Prelude.{◌≡◌, ◌+◌, ◌<◌, ◌∷◌, ◌==◌, All, IfSome, length, drop, slice_get, slice_index_or, []};
 ghost use Rattle.smol_text.specs.Lines.{IsWord};
-ghost use Rattle.smol_text.specs.Reading.{statements_of};
-ghost use Rattle.smol_text.specs.Spans.{slice_of, AllWithin, LinesWithin, lines_of, stated_lines, words_at};
+ghost use Rattle.smol_text.specs.Reading.{statements_of, words_of};
+ghost use Rattle.smol_text.specs.Spans.{AllSpelled, IsSpelled, lines_of, stated_at, stated_lines};
 
-use crate::line::{Line, Span};
-use crate::line_words::LineWords;
-use crate::statement::Statement;
+use crate::line::Line;
+use crate::stated_line::StatedLine;
 use std::marker::Model;
 
 /// A text and its lines that make statements. Contracts see its bytes and the list of these lines, where a
-/// line has a number and the places of its words.
+/// line has a number, the place of its part before the comment, and the places of its words.
 #[derive(Drop)]
 pub struct Text {
     bytes: Vec<u8>,
@@ -54,7 +53,7 @@ impl Text {
         ensures lines { result.now ≡ self.now.lines }
         ensures of_bytes { self.now.lines ≡ lines_of self.now.bytes }
         ensures statements { statements_of self.now.bytes ≡ Ok (stated_lines self.now) }
-        ensures within { LinesWithin self.now }
+        ensures spelled { AllSpelled self.now }
     {
         self.lines.as_slice()
     }
@@ -72,52 +71,35 @@ impl Text {
         self.lines.is_empty()
     }
 
-    /// The number, in the text, of the statement's line at an index.
-    pub fn number(&self, line: usize) -> u32
-        requires { line < length (stated_lines self.now) }
-        ensures { slice_get (stated_lines self.now) line
-            ≡ Some (record { number = result; words = words_at self.now line }) }
-    {
-        self.lines[line].number
-    }
-
-    /// The words of the statement at an index, and no words past the last statement.
-    pub fn words_of(&self, line: usize) -> LineWords<'_>
-        ensures words { result ≡ words_at self.now line }
-        ensures seen { All IsWord result }
-    {
-        LineWords::new(self.bytes.as_slice(), self.spans_of(line))
-    }
-
     /// The statement at an index. With it the statements from there on are it and those from the next on.
-    pub fn statement(&self, line: usize) -> Statement<'_>
-        requires { line < length (stated_lines self.now) }
-        ensures is_next { drop line (stated_lines self.now)
-            ≡ record { number = result.number; words = result.words } ∷ drop (line + 1) (stated_lines self.now) }
-        ensures seen { All IsWord result.words }
+    pub fn line(&self, index: usize) -> StatedLine<'_>
+        requires { index < length (stated_lines self.now) }
+        ensures value { slice_get (stated_lines self.now) index ≡ Some result }
+        ensures is_next { drop index (stated_lines self.now) ≡ result ∷ drop (index + 1) (stated_lines self.now) }
+        ensures seen { All IsWord (words_of result) }
     {
-        Statement {
-            number: self.number(line),
-            words: self.words_of(line),
-        }
+        let line = self.spelled(index);
+        let bytes = self.bytes();
+        let part = &bytes[line.part.start as usize..line.part.end as usize];
+        StatedLine::new(line.number, part, bytes, line.words.as_slice())
     }
 
-    /// The places of the words of the statement at an index, and no places past the last statement.
-    fn spans_of(&self, line: usize) -> &[Span]
-        ensures words { map (slice_of self.now.bytes) result.now ≡ words_at self.now line }
-        ensures within { AllWithin self.now.bytes result.now }
+    /// Where the statement at an index stands.
+    fn spelled(&self, index: usize) -> &Line
+        requires { index < length (stated_lines self.now) }
+        ensures value { slice_get (stated_lines self.now) index ≡ Some (stated_at self.now.bytes result.now) }
+        ensures spelled { IsSpelled self.now.bytes result.now }
+        ensures statements { statements_of self.now.bytes ≡ Ok (stated_lines self.now) }
     {
-        match self.lines.get(line) {
-            Some(line) => line.words.as_slice(),
-            None => &[],
-        }
+        &self.lines()[index]
     }
 
     /// The word at an index of the statement at an index.
     pub fn word(&self, line: usize, i: usize) -> &[u8]
-        requires { i < length (words_at self.now line) }
-        ensures { result.now ≡ slice_index_or (words_at self.now line) i [] }
+        requires line { line < length (stated_lines self.now) }
+        requires word { IfSome (slice_get (stated_lines self.now) line) (λ line. i < length (words_of line)) }
+        ensures { IfSome (slice_get (stated_lines self.now) line) (λ line. result.now ≡ slice_index_or (words_of line) i []) }
     {
-        self.words_of(line).word(i)
+        self.line(line).word(i)
     }
 }

@@ -1,5 +1,4 @@
 use std::alloc::{AllocError, AllocFailed};
-use std::fmt;
 
 /// Why a text is not split into lines. Lines are numbered from 1.
 #[derive(Clone, Copy, Debug, PartialEq, Eq)]
@@ -13,19 +12,6 @@ pub enum TextFault {
     /// There was no memory left for the lines.
     OutOfMemory,
 }
-
-impl fmt::Display for TextFault {
-    fn fmt<W: fmt::Write>(&self, f: &mut fmt::Formatter<W>) -> fmt::Result {
-        match self {
-            TextFault::BadByte { line } => write!(f, "line {line}: byte not allowed"),
-            TextFault::OpenComment { line } => write!(f, "line {line}: comment not closed"),
-            TextFault::TooManyLines => write!(f, "line 65537: too many"),
-            TextFault::OutOfMemory => write!(f, "out of memory"),
-        }
-    }
-}
-
-impl std::error::Error for TextFault {}
 
 impl From<AllocError> for TextFault {
     ghost use Rattle.std.specs.Prelude.{◌≡◌};

@@ -5,11 +5,10 @@ use Rattle.std.proofs.lemmas.List.{append-nil, length-take-le}
 use Rattle.std.proofs.lemmas.List.Sums.{prefix_len-le-length}
 use Rattle.smol_text.specs.declared.line.Line.{Line}
 use Rattle.smol_text.specs.declared.standing.Standing.TheVariants.{Open}
-use Rattle.smol_text.specs.declared.text_fault.TextFault.TheVariants.{OpenComment, TooManyLines}
 use Rattle.smol_text.specs.Lines.{is_line_feed, raw_lines, uncommented}
-use Rattle.smol_text.specs.Reading.{first_word, is_allowed, standing_after}
-use Rattle.smol_text.specs.Spans.{places, placed_if}
-use Rattle.smol_text.proofs.Onward.{reads, last_fault, fault_from, fault_of, placed_from, fault_from-found, fault_from-next, placed_from-next, fault_from-past, fault_from-ended, placed_from-past, placed_from-ended, fault_here-none, fault_here-many, fault_here-byte, reads-open, reads-closed, reads-commented, statements_of-fault, is_ok-statements_of, lines_of-placed_from}
+use Rattle.smol_text.specs.Reading.{bad_byte, open_comment, too_many_lines, first_word, is_allowed, standing_after}
+use Rattle.smol_text.specs.Spans.{placed_at}
+use Rattle.smol_text.proofs.Onward.{reads, last_fault, fault_from, fault_of, placed_from, fault_from-found, fault_from-next, placed_from-next, fault_from-past, fault_from-ended, placed_from-past, placed_from-ended, byte_is_told, fault_here-none, fault_here-many, fault_here-byte, reads-open, reads-closed, reads-commented, statements_of-fault, is_ok-statements_of, lines_of-placed_from}
 use Rattle.smol_text.proofs.Steps.{position_or_len-rest, raw_lines-next, raw_lines-cut}
 use Rattle.smol_text.proofs.split.find_lines.Goals as goal
 use Rattle.smol_text.proofs.split.find_lines.Goals.{then-loop-at-test+else-not-is_ended, else-loop-at-test, then-is_open+then-is_open-2+in_ok-keep_statement, else-is_open, else-is_open-via-then-is_open+else-is_open-2, else-is_open-via-else-is_open}
@@ -31,8 +30,8 @@ returns-then-passed-eq-MOST_LINES-clause-refused c =
     let line = take size (drop at bytes) in
     let rest = raw_lines-next bytes at size c.loop-at-test.true refl in
     let stands = sym c.is_ended.ensures ∙ c.if-not-is_ended.true in
-    λ _. statements_of-fault bytes TooManyLines
-    (fault_from-found bytes c.loop-at.standing c.loop-at.passed (raw_lines (drop at bytes)) line (raw_lines (drop (at + size + 1) bytes)) rest TooManyLines c.loop-at.invariant.fault
+    statements_of-fault bytes too_many_lines
+    (fault_from-found bytes c.loop-at.standing c.loop-at.passed (raw_lines (drop at bytes)) line (raw_lines (drop (at + size + 1) bytes)) rest too_many_lines c.loop-at.invariant.fault
     (fault_here-many c.loop-at.standing c.loop-at.passed line stands c.if-passed-eq-MOST_LINES.true))
 
 pub returns-in_err-keep_statement-clause-refused : goal.returns-in_err-keep_statement-clause-refused
@@ -51,9 +50,10 @@ returns-in_err-keep_statement-clause-refused c =
     let read = reads-open standing c.after-next.result passed line (c.after-next.ensures ∙ ap (standing_after (passed + 1) standing) c.first_word_of.ensures) (sym c.is_open.ensures ∙ c.if-is_open.true) (sym c.is_open-then-is_open.ensures ∙ c.if-is_open-2.true) in
     let p = err_from_is_err_and c.from_residual.result c.from_residual.ensures.1 in
     rw (p.1, p.2)
-    (λ other. statements_of-fault bytes fault
-    (fault_from-found bytes standing passed (raw_lines (drop at bytes)) line (raw_lines (drop (at + size + 1) bytes)) rest fault c.loop-at.invariant.fault
-    (fault_here-byte standing passed line stands few read (c.in_err-keep_statement.ensures.not_allowed other) ∙ ap Some (sym (c.in_err-keep_statement.ensures.refused other)))))
+    (byte_is_told fault (passed + 1) _ c.in_err-keep_statement.ensures.refused
+    (λ other. statements_of-fault bytes (bad_byte (passed + 1))
+    (fault_from-found bytes standing passed (raw_lines (drop at bytes)) line (raw_lines (drop (at + size + 1) bytes)) rest (bad_byte (passed + 1)) c.loop-at.invariant.fault
+    (fault_here-byte standing passed line stands few read (c.in_err-keep_statement.ensures.not_allowed other)))))
 
 pub loop-at-preserved : goal.loop-at-preserved
 loop-at-preserved c =
@@ -71,7 +71,7 @@ loop-at-preserved c =
     let stands = sym c.is_ended.ensures ∙ c.if-not-is_ended.true in
     let few : passed < 65536 = omega arith in
     let is_next : next ≡ standing_after (passed + 1) standing (first_word line) = c.after-next.ensures ∙ ap (standing_after (passed + 1) standing) c.first_word_of.ensures in
-    let place = λ (read : Bool). placed_if read (passed + 1) (places at line) in
+    let place = λ (read : Bool). placed_at read (passed + 1) at line in
     let kept : (c.if-is_open.lines.items ≡ before ++ place (reads standing passed line)) × (reads standing passed line ≡ true → list_all is_allowed (uncommented line) ≡ true) =
     elim c.if-is_open.branch [
       | then-is_open+then-is_open-2+in_ok-keep_statement w ↦
@@ -110,7 +110,7 @@ returns-in-Commented-clause-refused c =
       | then-loop-at-test+else-not-is_ended w ↦ fault_from-ended standing passed (raw_lines (drop at bytes)) (sym w.is_ended.ensures ∙ w.if-not-is_ended.false)
       | else-loop-at-test w ↦ fault_from-past bytes standing passed at w.loop-at-test.false
     ] in
-    λ _. statements_of-fault bytes (OpenComment c.in-Commented.line) (sym c.loop-at.invariant.fault ∙ last ∙ ap last_fault c.in-Commented.is)
+    statements_of-fault bytes (open_comment c.in-Commented.line) (sym c.loop-at.invariant.fault ∙ last ∙ ap last_fault c.in-Commented.is)
 
 pub returns-in-Open : goal.returns-in-Open
 returns-in-Open c =

@@ -1,0 +1,78 @@
+-- Coordinates that are drawn between the walls of an axis.
+use Rattle.std.proofs.Common.{◌≡◌, ℕ, zero, suc, ◌+◌, ◌*◌, ◌≤◌, ◌<◌, refl, sym, ap, subst, ◌∙◌, arith, List, [], ◌∷◌, length, get_or, Option, Some, None, ℤ, pos}
+use Rattle.std.specs.Prelude.{slice_get}
+use Rattle.std.proofs.lemmas.Option.{slice_get_past, slice_get_read}
+use Rattle.smol_types.specs.declared.placing.Given.{Given}
+use Rattle.smol_types.specs.declared.placing.Given.TheVariants.{Any, At}
+use Rattle.smol_types.specs.declared.wall.Wall.{Wall}
+use Rattle.smol_types.specs.Walls.{AreWalls, IsAxis}
+use Rattle.smol_meaning.specs.Chance.{coordinate_drawn}
+use Rattle.smol_meaning.specs.Placement.{coordinates_at, coordinate_unused}
+use Rattle.smol_compart.specs.Coordinate.{coordinate_between, coordinate_on}
+
+-- the walls of an axis are a lower and an upper one
+axis_walls : (walls : List Wall) (number k : ℕ) (lower upper : Wall) → AreWalls number walls
+    → slice_get walls (2 * k) ≡ Some lower → slice_get walls (2 * k + 1) ≡ Some upper → IsAxis (number + k) lower upper
+axis_walls [] number k lower upper are low high = absurd (cc)
+axis_walls (l ∷ []) number k lower upper are low high = absurd are
+axis_walls (l ∷ u ∷ walls) number zero lower upper are low high =
+    let same_lower : l ≡ lower = cc in
+    let same_upper : u ≡ upper = cc in
+    let same_number : number ≡ number + 0 = omega arith in
+    subst (λ (n : ℕ). IsAxis n lower upper) same_number
+    (subst (λ (w : Wall). IsAxis number w upper) same_lower (subst (λ (w : Wall). IsAxis number l w) same_upper are.0))
+axis_walls (l ∷ u ∷ walls) number (suc k) lower upper are low high =
+    let further : 2 * suc k ≡ suc (suc (2 * k)) = omega arith in
+    let further_one : 2 * suc k + 1 ≡ suc (suc (2 * k + 1)) = omega arith in
+    let same_number : number + 1 + k ≡ number + suc k = omega arith in
+    subst (λ (n : ℕ). IsAxis n lower upper) same_number
+    (axis_walls walls (number + 1) k lower upper are.1
+    (subst (λ (i : ℕ). slice_get (l ∷ u ∷ walls) i ≡ Some lower) further low)
+    (subst (λ (i : ℕ). slice_get (l ∷ u ∷ walls) i ≡ Some upper) further_one high))
+
+pub walls_at : (walls : List Wall) (axis : ℕ) (lower upper : Wall) → AreWalls 0 walls → 2 * axis + 1 < length walls
+    → lower ≡ get_or walls (2 * axis) lower → upper ≡ get_or walls (2 * axis + 1) upper → IsAxis axis lower upper
+walls_at walls axis lower upper are within low high =
+    axis_walls walls 0 axis lower upper are
+    (slice_get_read walls (length walls) (2 * axis) lower refl (omega arith) low)
+    (slice_get_read walls (length walls) (2 * axis + 1) upper refl within high)
+
+-- between them a coordinate is drawn
+pub drawn_there : (walls : List Wall) (seed serial try axis : ℕ) (lower upper : Wall) → 2 * axis + 1 < length walls
+    → lower ≡ get_or walls (2 * axis) lower → upper ≡ get_or walls (2 * axis + 1) upper
+    → coordinate_on walls seed serial try axis Any ≡ coordinate_drawn seed serial try axis lower.plane upper.plane
+drawn_there walls seed serial try axis lower upper within low high =
+    let lower_is = slice_get_read walls (length walls) (2 * axis) lower refl (omega arith) low in
+    let upper_is = slice_get_read walls (length walls) (2 * axis + 1) upper refl within high in
+    λ i. coordinate_between seed serial try axis (lower_is i) (upper_is i) Any
+
+between_none : (seed serial try axis : ℕ) (lower : Option Wall) (given : Given)
+    → coordinate_between seed serial try axis lower None given ≡ coordinate_unused given
+between_none seed serial try axis None given = refl
+between_none seed serial try axis (Some lower) given = refl
+
+-- and on an axis without them it is 1
+pub unused_there : (walls : List Wall) (seed serial try axis : ℕ) → length walls ≤ 2 * axis + 1 → coordinate_on walls seed serial try axis Any ≡ pos 1
+unused_there walls seed serial try axis past =
+    ap (λ (upper : Option Wall). coordinate_between seed serial try axis (slice_get walls (2 * axis)) upper Any) (slice_get_past walls (2 * axis + 1) past)
+    ∙ between_none seed serial try axis (slice_get walls (2 * axis)) Any
+
+pub given_there : (walls : List Wall) (seed serial try axis : ℕ) (x : ℤ) → coordinate_on walls seed serial try axis (At x) ≡ x
+given_there walls seed serial try axis x = cases (slice_get walls (2 * axis)) (slice_get walls (2 * axis + 1))
+  where
+    cases : (lower upper : Option Wall) → coordinate_between seed serial try axis lower upper (At x) ≡ x
+    cases None upper = refl
+    cases (Some lower) None = refl
+    cases (Some lower) (Some upper) = refl
+
+-- the three coordinates of a place
+pub three_coordinates : (walls : List Wall) (seed serial try : ℕ) (x y z : Given)
+    → coordinates_at seed serial try 0 walls (x ∷ y ∷ z ∷ [])
+    ≡ coordinate_on walls seed serial try 0 x ∷ coordinate_on walls seed serial try 1 y ∷ coordinate_on walls seed serial try 2 z ∷ []
+three_coordinates [] seed serial try x y z = refl
+three_coordinates (a ∷ []) seed serial try x y z = refl
+three_coordinates (a ∷ b ∷ []) seed serial try x y z = refl
+three_coordinates (a ∷ b ∷ c ∷ []) seed serial try x y z = refl
+three_coordinates (a ∷ b ∷ c ∷ d ∷ []) seed serial try x y z = refl
+three_coordinates (a ∷ b ∷ c ∷ d ∷ e ∷ []) seed serial try x y z = refl
+three_coordinates (a ∷ b ∷ c ∷ d ∷ e ∷ f ∷ walls) seed serial try x y z = refl

@@ -1,0 +1,42 @@
+-- Names are text.
+use Rattle.std.proofs.Common.{◌≡◌, ℕ, ◌<◌, ◌&&◌, Bool, true, false, not, nat_lt, List, [], ◌∷◌, length, arith, refl}
+use Rattle.std.proofs.lemmas.Bool.Decides.{nat_tests}
+use Rattle.std.specs.List.{list_all}
+use Rattle.std.specs.Str.{IsAscii, IsUtf8}
+use Rattle.std.proofs.lemmas.Str.{IsUtf8-from_ascii}
+use Rattle.std.proofs.lemmas.Str.Ascii.{IsAscii-nil, IsAscii-cons}
+use Rattle.smol_line.specs.Names.{is_letter, continues_name, is_reserved, is_name}
+
+and_left : (a b : Bool) → (a && b) ≡ true → a ≡ true
+and_left true b both = refl
+and_left false b both = both
+
+and_right : (a b : Bool) → (a && b) ≡ true → b ≡ true
+and_right true b both = both
+and_right false b both = absurd (let no : false ≡ true = both in cc)
+
+letter_is_ascii : (byte : ℕ) → is_letter byte ≡ true → byte < 128
+letter_is_ascii byte letter = grind (arith, nat_tests)
+
+continues_is_ascii : (byte : ℕ) → continues_name byte ≡ true → byte < 128
+continues_is_ascii byte continues = grind (arith, nat_tests)
+
+all_are_ascii : (bytes : List ℕ) → list_all continues_name bytes ≡ true → IsAscii bytes
+all_are_ascii [] all = IsAscii-nil
+all_are_ascii (byte ∷ bytes) all =
+    IsAscii-cons byte bytes
+    (continues_is_ascii byte (and_left (continues_name byte) (list_all continues_name bytes) all))
+    (all_are_ascii bytes (and_right (continues_name byte) (list_all continues_name bytes) all))
+
+-- the bytes of a name are text
+pub name_is_text : (word : List ℕ) → is_name word ≡ true → IsUtf8 word
+name_is_text [] name = absurd (let no : false ≡ true = name in cc)
+name_is_text (byte ∷ bytes) name =
+    let few = nat_lt (length bytes) 64 in
+    let free = not (is_reserved (byte ∷ bytes)) in
+    let short = and_left (is_letter byte && list_all continues_name bytes && few) free name in
+    let front = and_left (is_letter byte && list_all continues_name bytes) few short in
+    IsUtf8-from_ascii (byte ∷ bytes)
+    (IsAscii-cons byte bytes
+    (letter_is_ascii byte (and_left (is_letter byte) (list_all continues_name bytes) front))
+    (all_are_ascii bytes (and_right (is_letter byte) (list_all continues_name bytes) front)))

@@ -1,0 +1,22 @@
+//! What a reader needs of a line: its words, and what a word means as a number, a name, a species, an axis or a length.
+#![tactic(auto)]
+
+mod axis;
+mod checks;
+mod length;
+mod name_set;
+mod names;
+mod numbers;
+mod refusal;
+mod species_word;
+mod words;
+
+pub use axis::axis_in;
+pub use checks::{once, unless, word_count};
+pub use length::micros_in;
+pub use name_set::NameSet;
+pub use names::{name_in, new_name_in};
+pub use numbers::{count_in, decimal_in, unsigned_in};
+pub use refusal::Refusal;
+pub use species_word::{Chosen, chosen_in, number_in, species_word_in};
+pub use words::{spells, word_at};
