@@ -13,6 +13,7 @@ mod settle;
 mod setup;
 mod steps;
 mod view;
+mod work;
 mod worker;
 
 pub use claims::Claims;
