@@ -1,10 +1,10 @@
 -- The pairs of a slice that have no link, as they are gathered one after the other.
-use Rattle.std.proofs.Common.{◌≡◌, ℕ, suc, ◌+◌, ◌*◌, ◌/◌, ◌<◌, ◌≤◌, min, Bool, true, false, ◌&&◌, ◌||◌, ◌==◌, nat_lt, List, [], ◌∷◌, ◌++◌, length, refl, sym, ◌∙◌, ap, ⊎_elim, arith, if◌then◌else◌}
-use Rattle.std.proofs.lemmas.Bool.{cases_eq, cases_lt, cases_Bool, lt-ltb, le-ltb, eq-eqb, ne_eqb, eqb-true, ltb-true, and_parts, and_from, and_left, and_right, or_left, or_right, false_from_ne_true, both_ways}
+use Rattle.std.proofs.Common.{◌≡◌, ℕ, ◌+◌, ◌*◌, ◌/◌, ◌<◌, ◌≤◌, min, Bool, true, false, ◌&&◌, ◌||◌, ◌==◌, nat_lt, List, [], ◌∷◌, ◌++◌, refl, sym, ◌∙◌, ap, ⊎_elim, arith, if◌then◌else◌}
+use Rattle.std.proofs.lemmas.Bool.{cases_eq, cases_lt, lt-ltb, le-ltb, eq-eqb, ne_eqb, eqb-true, ltb-true, and_parts, and_from, or_left, or_right, false_from_ne_true}
 use Rattle.smol_plan.specs.declared.pair.Pair.{Pair}
 use Rattle.smol_plan.specs.Machine.{slice_of, has_no_link}
 use Rattle.smol_claims.specs.View.{has, times, free_below}
-use Rattle.smol_claims.proofs.ListLemmas.{has-append, has-free_below, times-append, times-none, has-times}
+use Rattle.smol_claims.proofs.ListLemmas.{has-append, has-free_below, times-append, times-none}
 
 module _ (pairs : List Pair) (slice : ℕ) where
   -- none is below the first of the slice
@@ -80,9 +80,9 @@ module _ (pairs : List Pair) (slice : ℕ) where
       at = ⊎_elim
           (λ (e : j ≡ p). none (has_no_link pairs j) (slice_of j == slice) (ap (has_no_link pairs) e ∙ linked))
           (λ (n : j ≡ p → ⊥). ⊎_elim
-            (λ (l : j < p). let m : j < p + 1 = omega arith in rw (lt-ltb _ _ l, lt-ltb _ _ m) refl)
-            (λ (l : p ≤ j). let m : p + 1 ≤ j = omega arith in rw (le-ltb _ _ l, le-ltb _ _ m) refl)
-            (cases_lt j p))
+          (λ (l : j < p). let m : j < p + 1 = omega arith in rw (lt-ltb _ _ l, lt-ltb _ _ m) refl)
+          (λ (l : p ≤ j). let m : p + 1 ≤ j = omega arith in rw (le-ltb _ _ l, le-ltb _ _ m) refl)
+          (cases_lt j p))
           (cases_eq j p)
 
   -- each is gathered once
