@@ -7,6 +7,8 @@
 
 mod claims;
 mod code;
+mod fresh;
+mod open;
 mod plays;
 mod rule;
 mod settle;
