@@ -11,3 +11,4 @@ pub mod OpenLemmas
 pub mod SitLemmas
 pub mod HandLemmas
 pub mod NextLinkLemmas
+pub mod FreeLemmas

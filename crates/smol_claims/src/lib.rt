@@ -7,12 +7,15 @@
 
 mod claims;
 mod code;
+mod fresh;
+mod open;
 mod plays;
 mod rule;
 mod settle;
 mod setup;
 mod steps;
 mod view;
+mod work;
 mod worker;
 
 pub use claims::Claims;
