@@ -26,7 +26,7 @@ at_most_from a b h = ⊎_elim (λ e. e) (λ e. let no = le-false a b e in absurd
 at_most_is : (a b : ℤ) → int_le a b ≡ true → a ≤ℤ b
 at_most_is a b e = let yes = le-true a b e in omega (arith, ints)
 
-between_from : (low high : ℤ) (x : Fraction) → whole low ≤ℚ x → x ≤ℚ whole high → is_between low high x ≡ true
+pub between_from : (low high : ℤ) (x : Fraction) → whole low ≤ℚ x → x ≤ℚ whole high → is_between low high x ≡ true
 between_from low high x l h = and_from _ _ (at_most_from _ _ l) (at_most_from _ _ h)
 
 pub between_is : (low high : ℤ) (x : Fraction) → is_between low high x ≡ true → (whole low ≤ℚ x) × (x ≤ℚ whole high)
