@@ -1,9 +1,1 @@
-pub mod NameLemmas
-pub mod Lookups
-pub mod KeptLemmas
-pub mod Lines
-pub mod Motions
-pub mod Soundness
-pub mod WholeTests
-pub mod Reading
 pub mod StatementLemmas
