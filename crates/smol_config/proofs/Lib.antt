@@ -1,1 +1,4 @@
 pub mod StatementLemmas
+pub mod Held
+pub mod SpeciesNames
+pub mod Drafts

@@ -2,7 +2,6 @@
 use Rattle.std.specs.Prelude.{ℕ, List, [], ◌∷◌, if◌then◌else◌, codes}
 use Rattle.std.specs.List.{list_any}
 use Rattle.std.specs.Str.{bytes_eq}
-use Rattle.std.specs.Borrow.{Bor}
 use Rattle.smol_config.specs.declared.statement.Statement.{Statement}
 use Rattle.smol_config.specs.declared.statement.Statement.TheVariants.{PassedOver, NotInProfile, Unknown, Dim, Species, Difc, Difstep, TimeStart, TimeStop, TimeStep, MaxMol, RandomSeed, Boundaries, Mol, Cmd}
 
@@ -93,10 +92,6 @@ left_out_words =
     ∷ codes "compartment"
     ∷ codes "set"
     ∷ []
-
--- an entry of a table in the code
-abbrev pub spelled : Bor (List ℕ) × Statement → List ℕ × Statement
-spelled entry = (entry.0.now, entry.1)
 
 -- what a word stands for in a table, and else Unknown
 abbrev pub named : List (List ℕ × Statement) → List ℕ → Statement

@@ -1,5 +1,5 @@
 -- What the reader keeps of the lines read so far. This is no part of what a text means.
-use Rattle.std.specs.Prelude.{◌≡◌, ◌≤◌, ◌+◌, ℕ, ℤ, unsigned_abs, List, [], ◌∷◌, Option, None, Some, Result, Ok, Err, slice_index_or}
+use Rattle.std.specs.Prelude.{◌≡◌, ◌≤◌, ◌+◌, ℕ, ℤ, unsigned_abs, List, [], ◌∷◌, length, Option, None, Some, Result, Ok, Err, slice_index_or}
 use Rattle.smol_text.specs.Reading.{Stated}
 use Rattle.smol_types.specs.declared.fault.Kind.{Kind}
 use Rattle.smol_types.specs.declared.species.Species.{Species as TheSpecies}
@@ -37,6 +37,7 @@ pub record Holds (tables : Tables) (before : List Said) : Type 0 where
   pub step : tables.step ≡ step_of before
   pub max_mol : tables.max_mol ≡ max_mol_of before
   pub seed : tables.seed ≡ seed_of before
+  pub axes : length tables.bounds ≡ 3
   pub bounds : AreBounds tables.bounds before
   pub placings : tables.placings ≡ placings_of before
   pub commands : tables.commands ≡ commands_of before

@@ -56,7 +56,7 @@ fn bounds_in(line: &StatedLine<'_>) -> Result<Bounds, Kind>
 }
 
 /// The walls that a line gives, and their axis, by what the lines before give.
-#[tactic(auto, unfolding(crate::specs::Boundaries::boundaries_in))]
+#[tactic(auto, using(crate::proofs::Held::bounds_at), unfolding(crate::specs::Boundaries::boundaries_in))]
 pub fn judge(
     dims: Option<u8>,
     bounds: &[Option<Bounds>; 3],

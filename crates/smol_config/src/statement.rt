@@ -2,7 +2,7 @@
 ghost use Rattle.std.specs.Prelude.{◌≡◌, map};
 ghost use Rattle.std.specs.List.{list_any};
 ghost use Rattle.std.specs.Str.{bytes_eq};
-ghost use Rattle.smol_config.specs.Statement.{named, spelled};
+ghost use Rattle.smol_config.specs.Statement.{named};
 
 use smol_line::spells;
 
@@ -119,11 +119,11 @@ fn is_among(word: &[u8], names: &[&str]) -> bool
 
 // What a word stands for in a table.
 fn named(table: &[(&str, Statement)], word: &[u8]) -> Statement
-    ensures { result ≡ named (map spelled table.now) word.now }
+    ensures { result ≡ named (map (λ entry. (entry.0.now, entry.1)) table.now) word.now }
 {
-    for (name, statement) in table {
-        if spells(word, name) {
-            return *statement;
+    for entry in table {
+        if spells(word, entry.0) {
+            return entry.1;
         }
     }
     Statement::Unknown
@@ -133,7 +133,7 @@ impl Statement {
     ghost use Rattle.smol_config.specs.Statement.{statement_of};
 
     /// The statement that a word makes at the beginning of a line.
-    #[tactic(auto, using(crate::proofs::StatementLemmas::passed_over_words_are_looked_for, crate::proofs::StatementLemmas::left_out_words_are_looked_for, crate::proofs::StatementLemmas::built_words_are_looked_for), unfolding(crate::specs::Statement::statement_of))]
+    #[tactic(auto, using(crate::proofs::StatementLemmas::passed_over_words_are_looked_for, crate::proofs::StatementLemmas::left_out_words_are_looked_for), unfolding(crate::specs::Statement::statement_of))]
     pub fn of(word: &[u8]) -> Statement
         ensures { result ≡ statement_of word.now }
     {

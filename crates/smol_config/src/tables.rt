@@ -127,8 +127,8 @@ impl Tables {
         requires { length self.old.species.names ≤ most_species }
         ensures { Reads (statement_in statement.Mol) line.now self.old self.new result }
     {
-        let species = &self.species.names;
-        let placing = mol::judge(self.dims, &self.bounds, species, line)?;
+        let species = &self.species;
+        let placing = mol::judge(self.dims, &self.bounds, &species.names, line)?;
         self.placings.push(placing)?;
         Ok(())
     }

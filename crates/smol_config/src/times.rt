@@ -1,5 +1,6 @@
 //! `time_start T`, `time_stop T` and `time_step T`: times in nanos.
-ghost use Rattle.std.specs.Prelude.{◌≡◌, List};
+ghost use Rattle.std.specs.Prelude.{◌≡◌, ◌≤◌, List, IfOk, unsigned_abs};
+ghost use Rattle.smol_types.specs.Limits.{latest};
 ghost use Rattle.smol_config.specs.Said.{Said};
 ghost use Rattle.smol_config.specs.Times.{nanos_in, step_of, time_in, time_step_in};
 
@@ -12,7 +13,8 @@ const MOST_NANOS: i64 = 1_000_000_000_000_000_000;
 
 // A time in nanos.
 fn nanos_in(word: &[u8]) -> Result<i64, Kind>
-    ensures { result ≡ nanos_in word.now }
+    ensures value { result ≡ nanos_in word.now }
+    ensures size { IfOk result (λ time. unsigned_abs time ≤ latest) }
 {
     decimal_in(9, -MOST_NANOS, MOST_NANOS, word)
 }
@@ -20,7 +22,8 @@ fn nanos_in(word: &[u8]) -> Result<i64, Kind>
 /// The time that a line gives, where `given` is what a line before gives by the same statement.
 #[tactic(auto, unfolding(crate::specs::Times::time_in))]
 pub fn judge(given: Option<i64>, line: &StatedLine<'_>) -> Result<i64, Kind>
-    ensures { result ≡ time_in given line.now }
+    ensures rule { result ≡ time_in given line.now }
+    ensures size { IfOk result (λ time. unsigned_abs time ≤ latest) }
 {
     once(&given)?;
     word_count(2, line)?;
@@ -30,7 +33,8 @@ pub fn judge(given: Option<i64>, line: &StatedLine<'_>) -> Result<i64, Kind>
 /// The time of a step that a line gives, where `given` is what a line before gives.
 #[tactic(auto, unfolding(crate::specs::Times::time_step_in))]
 pub fn judge_step(given: Option<i64>, line: &StatedLine<'_>) -> Result<i64, Kind>
-    ensures { (before : List Said) → given ≡ step_of before → result ≡ time_step_in before line.now }
+    ensures rule { (before : List Said) → given ≡ step_of before → result ≡ time_step_in before line.now }
+    ensures size { IfOk result (λ time. unsigned_abs time ≤ latest) }
 {
     let time = judge(given, line)?;
     unless(time > 0, Kind::OutOfRange)?;

@@ -10,7 +10,7 @@ ghost use Rattle.smol_config.specs.Said.{Said};
 ghost use Rattle.smol_config.specs.Motion.{difstep_of};
 ghost use Rattle.smol_config.specs.Content.{content_of, walls_at, walls_of};
 ghost use Rattle.smol_config.specs.Tables.{AreSmall, Holds, IsReached, species_made};
-ghost use Rattle.smol_config.specs.Whole.{bounded, has_difstep, has_few_steps, is_idle, lets_through, needed_in, whole_in};
+ghost use Rattle.smol_config.specs.Whole.{bounded, has_difstep, has_few_steps, is_idle, is_open, lets_through, needed_in, stands_still, whole_in};
 
 use crate::motion::{MOST_DIFSTEP, Motion, difstep_of};
 use crate::species_table::SpeciesTable;
@@ -157,20 +157,25 @@ fn lets_through(letter: Letter) -> bool
     letter == Letter::T
 }
 
+// Whether no species moves.
+fn stand_still(species: &[Species]) -> bool
+    ensures { result ≡ list_all stands_still species.now }
+{
+    species.iter().all(|species| species.step == 0)
+}
+
+// Whether all walls let molecules through.
+fn are_open(walls: &[Wall]) -> bool
+    ensures { result ≡ list_all is_open walls.now }
+{
+    walls.iter().all(|wall| lets_through(wall.letter))
+}
+
 // Whether no wall has anything to do: no species moves, or the walls let molecules through.
 fn is_idle(draft: &Draft) -> bool
     ensures { result ≡ is_idle draft.now }
 {
-    draft
-        .species
-        .as_slice()
-        .iter()
-        .all(|species| species.step == 0)
-        || draft
-            .walls
-            .as_slice()
-            .iter()
-            .all(|wall| lets_through(wall.letter))
+    stand_still(draft.species.as_slice()) || are_open(draft.walls.as_slice())
 }
 
 // What the lines make together, as long as the steps are few and the difsteps small.
