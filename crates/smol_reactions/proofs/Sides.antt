@@ -1,5 +1,5 @@
 -- The sides of a reaction, word by word.
-use Rattle.std.proofs.Common.{◌≡◌, ◌≢◌, ℕ, suc, ◌+◌, ◌-◌, ◌<◌, ◌≤◌, min, ◌&&◌, Bool, true, false, cond, nat_le, List, [], ◌∷◌, ◌++◌, length, take, drop, get_or, slice_range, Option, None, Some, Result, Ok, Err, refl, sym, ap, ◌∙◌, inl, inr, arith, position, length-drop, get_or-drop, append_assoc, drop-drop, take_all}
+use Rattle.std.proofs.Common.{◌≡◌, ◌≢◌, ℕ, suc, ◌+◌, ◌-◌, ◌<◌, ◌≤◌, min, ◌&&◌, Bool, true, false, cond, nat_le, List, [], ◌∷◌, ◌++◌, length, take, drop, get_or, slice_range, Option, None, Some, Result, Ok, Err, refl, sym, ap, ◌∙◌, inl, inr, arith, position, length-drop, get_or-drop, append_assoc, append-nil, drop-drop, take_all}
 use Rattle.std.specs.List.{position_or_len}
 use Rattle.std.proofs.lemmas.Bool.{cases_lt, lt-ltb, le-ltb}
 use Rattle.std.proofs.lemmas.Bool.Decides.{nat_tests}
@@ -36,14 +36,14 @@ pub summands_none : (words : List (List ℕ)) (end : ℕ) → summands (slice_ra
 summands_none words end = ap summands (part_none words end)
 
 -- the species words from here on: this word, and those behind the next one
-pub summands_more : (words : List (List ℕ)) (at end : ℕ) → at < end → end ≤ length words → summands (slice_range words at end) ≡ get_or words at [] ∷ summands (slice_range words (min (at + 2) end) end)
+pub summands_more : (words : List (List ℕ)) (at end : ℕ) → at < end → end ≤ length words → summands (slice_range words at end) ≡ get_or words at [] ∷ summands (slice_range words (at + min (end - at) 2) end)
 summands_more words at end begun within =
     elim (cases_lt (at + 1) end) [
       | inl more ↦
-          let next : min (at + 2) end ≡ at + 2 = omega arith in
+          let next : at + min (end - at) 2 ≡ at + 2 = omega arith in
           rw next (ap summands (part_two words at end [] more within))
       | inr last ↦
-          let next : min (at + 2) end ≡ end = omega arith in
+          let next : at + min (end - at) 2 ≡ end = omega arith in
           rw next (ap summands (part_one words at end [] (omega arith) within) ∙ ap (λ rest. get_or words at [] ∷ rest) (sym (summands_none words end)))
     ]
 
@@ -64,17 +64,17 @@ one_behind numbers number (Ok more) = ap Ok (sym (append_assoc numbers (number �
 one_behind numbers number (Err kind) = refl
 
 -- a word that names a species adds its number
-pub numbers_more : (species words : List (List ℕ)) (at end : ℕ) (numbers : List ℕ) (number : ℕ) → at < end → end ≤ length words → species_word_in species (get_or words at []) ≡ Ok number → numbers_behind numbers (numbers_in species (summands (slice_range words at end))) ≡ numbers_behind (numbers ++ number ∷ []) (numbers_in species (summands (slice_range words (min (at + 2) end) end)))
+pub numbers_more : (species words : List (List ℕ)) (at end : ℕ) (numbers : List ℕ) (number : ℕ) → at < end → end ≤ length words → species_word_in species (get_or words at []) ≡ Ok number → numbers_behind numbers (numbers_in species (summands (slice_range words at end))) ≡ numbers_behind (numbers ++ number ∷ []) (numbers_in species (summands (slice_range words (at + min (end - at) 2) end)))
 numbers_more species words at end numbers number begun within named =
     ap (λ list. numbers_behind numbers (numbers_in species list)) (summands_more words at end begun within)
-    ∙ ap (λ found. numbers_behind numbers (with_value found (λ first. with_value (numbers_in species (summands (slice_range words (min (at + 2) end) end))) (λ more. Ok (first ∷ more))))) named
-    ∙ one_behind numbers number (numbers_in species (summands (slice_range words (min (at + 2) end) end)))
+    ∙ ap (λ found. numbers_behind numbers (with_value found (λ first. with_value (numbers_in species (summands (slice_range words (at + min (end - at) 2) end))) (λ more. Ok (first ∷ more))))) named
+    ∙ one_behind numbers number (numbers_in species (summands (slice_range words (at + min (end - at) 2) end)))
 
 -- a word that names none is at fault
 pub numbers_fail : (species words : List (List ℕ)) (at end : ℕ) (numbers : List ℕ) (kind : Kind) → at < end → end ≤ length words → species_word_in species (get_or words at []) ≡ Err kind → numbers_behind numbers (numbers_in species (summands (slice_range words at end))) ≡ Err kind
 numbers_fail species words at end numbers kind begun within unnamed =
     ap (λ list. numbers_behind numbers (numbers_in species list)) (summands_more words at end begun within)
-    ∙ ap (λ found. numbers_behind numbers (with_value found (λ first. with_value (numbers_in species (summands (slice_range words (min (at + 2) end) end))) (λ more. Ok (first ∷ more))))) unnamed
+    ∙ ap (λ found. numbers_behind numbers (with_value found (λ first. with_value (numbers_in species (summands (slice_range words (at + min (end - at) 2) end))) (λ more. Ok (first ∷ more))))) unnamed
 
 position_at : {X : Type 0} (p : X → Bool) (xs : List X) (i : ℕ) → position_or_len p xs ≡ i → i < length xs → position p xs ≡ Some i
 position_at p xs i is within = rw (is, lt-ltb i (length xs) within) refl
@@ -118,3 +118,8 @@ left_bad words other bad = rw (other, bad) refl
 pub too_many_words : (b : Bool) (count : ℕ) → 3 < count → (b && nat_le count 3) ≡ false
 too_many_words true count past = grind (arith, nat_tests)
 too_many_words false count past = refl
+
+-- at the end all numbers are read
+pub numbers_end : (species words : List (List ℕ)) (at end : ℕ) (numbers : List ℕ) → at ≡ end → numbers_behind numbers (numbers_in species (summands (slice_range words at end))) ≡ Ok numbers
+numbers_end species words at end numbers done =
+    rw (done, summands_none words end, append-nil numbers) refl

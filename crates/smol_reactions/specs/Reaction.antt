@@ -32,16 +32,22 @@ numbers_in species (word ∷ words) =
 abbrev pub arranged_words : Stated → List (List ℕ)
 arranged_words line = drop 2 (words_of line)
 
+-- the numbers of the reactants' and of the products' species
+unfoldable pub sides_in : List (List ℕ) → List (List ℕ) → Result (List ℕ × List ℕ) Kind
+sides_in species words =
+    with_value (arrangement_in words) (λ sides.
+    with_value (numbers_in species sides.reactants) (λ reactants.
+    with_value (numbers_in species sides.products) (λ products.
+    Ok (reactants, products))))
+
 -- the reaction that a line gives, beside species and reactions of these names
 unfoldable pub reaction_in : List (List ℕ) → List (List ℕ) → Stated → Result Scheme Kind
 reaction_in species known line =
     passing (unless (nat_le 5 (length (words_of line))) WrongWordCount ∷ [])
     (with_value (new_name_in known (word_at line 1)) (λ name.
-    with_value (arrangement_in (arranged_words line)) (λ sides.
-    with_value (numbers_in species sides.reactants) (λ reactants.
-    with_value (numbers_in species sides.products) (λ products.
+    with_value (sides_in species (arranged_words line)) (λ sides.
     passing
-    (unless (nat_le (length products) most_products) TooMany
+    (unless (nat_le (length sides.1) most_products) TooMany
     ∷ unless (nat_lt (length known) most_reactions) TooMany
     ∷ [])
-    (Ok (record { name = name; reactants = reactants; products = products })))))))
+    (Ok (record { name = name; reactants = sides.0; products = sides.1 })))))

@@ -5,7 +5,7 @@ ghost use Rattle.smol_types.specs.Limits.{most_species, most_products, most_reac
 ghost use Rattle.smol_line.specs.SpeciesWord.{species_word_in};
 ghost use Rattle.smol_reactions.specs.Answers.{Answers};
 ghost use Rattle.smol_reactions.specs.Arrangement.{summands};
-ghost use Rattle.smol_reactions.specs.Reaction.{numbers_in, reaction_in};
+ghost use Rattle.smol_reactions.specs.Reaction.{arranged_words, numbers_in, reaction_in, sides_in};
 
 use crate::arrangement::{Side, arrangement_in};
 use crate::scheme::Scheme;
@@ -36,9 +36,26 @@ fn numbers_in(
     let mut at = side.start;
     while at < side.end {
         numbers.push(species_word_in(species, line.word(at))?)?;
-        at = (at + 2).min(side.end);
+        at += (side.end - at).min(2);
     }
     Ok(numbers)
+}
+
+// The numbers of the reactants' and of the products' species.
+#[tactic(auto, unfolding(crate::specs::Reaction::sides_in))]
+fn sides_in(
+    alloc: Global,
+    species: &NameSet,
+    line: &StatedLine<'_>,
+) -> Result<(Items<u16>, Items<u16>), Refusal>
+    requires few { length species.now ≤ most_species }
+    requires named { 2 ≤ length (words_of line.now) }
+    ensures { Answers (sides_in species.now (arranged_words line.now)) result }
+{
+    let arranged = arrangement_in(line)?;
+    let reactants = numbers_in(alloc, species, line, arranged.left)?;
+    let products = numbers_in(alloc, species, line, arranged.right)?;
+    Ok((reactants, products))
 }
 
 /// The reaction that a line gives, beside species and reactions of these names.
@@ -54,9 +71,7 @@ pub fn judge(
 {
     unless(line.len() >= 5, Kind::WrongWordCount)?;
     let name = new_name_in(known, word_at(line, 1))?;
-    let arranged = arrangement_in(line)?;
-    let reactants = numbers_in(alloc, species, line, arranged.left)?;
-    let products = numbers_in(alloc, species, line, arranged.right)?;
+    let (reactants, products) = sides_in(alloc, species, line)?;
     unless(products.len() <= MOST_PRODUCTS, Kind::TooMany)?;
     unless(known.len() < MOST_REACTIONS, Kind::TooMany)?;
     Ok(Scheme {
