@@ -1,3 +1,6 @@
 pub mod Parts
 pub mod Sides
 pub mod Judged
+pub mod Lists
+pub mod Passing
+pub mod SchemeLemmas

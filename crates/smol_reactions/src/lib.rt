@@ -6,9 +6,9 @@ mod binding_radius;
 mod product_placement;
 mod reaction;
 mod reaction_probability;
-//mod reactions;
+mod reactions;
 mod scheme;
 
 pub use product_placement::{PlacementKind, ProductPlacement};
-//pub use reactions::Reactions;
+pub use reactions::Reactions;
 pub use scheme::Scheme;

@@ -2,6 +2,7 @@
 ghost use Rattle.std.specs.Prelude.{◌≡◌, ◌==◌, ◌≤◌, ◌<◌, true, length, position, All, IfOk};
 ghost use Rattle.smol_types.specs.declared.reaction.Product.{Product as TheProduct};
 ghost use Rattle.smol_types.specs.Limits.{most_species, most_products, most_reactions};
+ghost use Rattle.smol_reactions.specs.Content.{kind_of};
 ghost use Rattle.smol_reactions.specs.Reaction.{names_of, HasFewProducts};
 ghost use Rattle.smol_reactions.specs.ProductPlacement.{counts_from_1, first_of_species, kind_in, numeral_of, offset_at, offset_in, placement_in, product_in, product_of, product_placement_in, species_made, takes, words_for};
 
@@ -49,6 +50,16 @@ fn kind_in(word: &[u8]) -> Result<PlacementKind, Kind>
         Ok(PlacementKind::Unbindrad)
     } else {
         Err(Kind::NotInProfile)
+    }
+}
+
+/// The kind of a placement.
+pub fn kind_of(placement: ProductPlacement) -> PlacementKind
+    ensures { result ≡ kind_of placement }
+{
+    match placement {
+        ProductPlacement::Offset { .. } => PlacementKind::Offset,
+        ProductPlacement::Unbind(_) => PlacementKind::Unbindrad,
     }
 }
 

@@ -1,10 +1,12 @@
 //! `reaction NAME LEFT -> RIGHT`: a reaction of one species or two, and what it makes.
-ghost use Rattle.std.specs.Prelude.{◌≡◌, ◌≤◌, ◌<◌, ◌++◌, ◌∷◌, [], length, slice_range, OnOk, IfOk, MatchResult, All};
+ghost use Rattle.std.specs.Prelude.{◌≡◌, ◌≤◌, ◌<◌, ◌++◌, ◌∷◌, [], false, length, slice_range, OnOk, IfOk, MatchResult, All};
 ghost use Rattle.smol_text.specs.Reading.{words_of};
 ghost use Rattle.smol_types.specs.Limits.{most_species, most_products, most_reactions};
+ghost use Rattle.smol_line.specs.Names.{is_named};
 ghost use Rattle.smol_line.specs.SpeciesWord.{species_word_in};
 ghost use Rattle.smol_reactions.specs.Answers.{Answers};
 ghost use Rattle.smol_reactions.specs.Arrangement.{summands};
+ghost use Rattle.smol_reactions.specs.Sound.{IsScheme};
 ghost use Rattle.smol_reactions.specs.Reaction.{arranged_words, numbers_in, reaction_in, sides_in};
 
 use crate::arrangement::{Side, arrangement_in};
@@ -68,6 +70,9 @@ pub fn judge(
 ) -> Result<Scheme, Refusal>
     requires few { length species.now ≤ most_species }
     ensures rule { Answers (reaction_in species.now known.now line.now) result }
+    ensures new { IfOk result (λ scheme. is_named known.now scheme.name ≡ false) }
+    ensures room { OnOk result (length known.now < most_reactions) }
+    ensures sound { IfOk result (IsScheme (length species.now)) }
 {
     unless(line.len() >= 5, Kind::WrongWordCount)?;
     let name = new_name_in(known, word_at(line, 1))?;
