@@ -4,3 +4,5 @@ pub mod Judged
 pub mod Lists
 pub mod Passing
 pub mod SchemeLemmas
+pub mod Telling
+pub mod TableLemmas

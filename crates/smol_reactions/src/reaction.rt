@@ -61,7 +61,11 @@ fn sides_in(
 }
 
 /// The reaction that a line gives, beside species and reactions of these names.
-#[tactic(auto, unfolding(crate::specs::Reaction::reaction_in))]
+#[tactic(
+    auto,
+    unfolding(crate::specs::Reaction::reaction_in),
+    using(crate::proofs::SchemeLemmas::given_is)
+)]
 pub fn judge(
     alloc: Global,
     species: &NameSet,

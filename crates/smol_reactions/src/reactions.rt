@@ -77,9 +77,9 @@ fn fresh_reaction(alloc: Global, scheme: Scheme) -> Result<Reaction, AllocError>
 }
 
 // Gives the reaction of this number, if there is one, a radius.
-#[tactic(auto, using(crate::proofs::Lists::changed_is, crate::proofs::Lists::changed_past))]
-fn set_radius(list: &mut [Reaction], number: usize, radius: Micro)
-    ensures { list.new ≡ changed (with_radius radius) number list.old }
+#[tactic(auto, using(crate::proofs::Lists::changed_past))]
+fn set_radius(list: &mut Vec<Reaction>, number: usize, radius: Micro)
+    ensures { list.new.items ≡ changed (with_radius radius) number list.old.items }
 {
     if number < list.len() {
         list[number].radius = Some(radius);
@@ -87,9 +87,9 @@ fn set_radius(list: &mut [Reaction], number: usize, radius: Micro)
 }
 
 // Gives the reaction of this number, if there is one, a probability in billionths.
-#[tactic(auto, using(crate::proofs::Lists::changed_is, crate::proofs::Lists::changed_past))]
-fn set_chance(list: &mut [Reaction], number: usize, chance: u32)
-    ensures { list.new ≡ changed (with_chance chance) number list.old }
+#[tactic(auto, using(crate::proofs::Lists::changed_past))]
+fn set_chance(list: &mut Vec<Reaction>, number: usize, chance: u32)
+    ensures { list.new.items ≡ changed (with_chance chance) number list.old.items }
 {
     if number < list.len() {
         list[number].threshold = threshold_of(chance);
@@ -97,9 +97,9 @@ fn set_chance(list: &mut [Reaction], number: usize, chance: u32)
 }
 
 // Gives the product of this number, if there is one, an offset.
-#[tactic(auto, using(crate::proofs::Lists::changed_is, crate::proofs::Lists::changed_past))]
-fn set_offset(products: &mut [Product], number: usize, offset: Step3)
-    ensures { products.new ≡ changed (with_offset offset) number products.old }
+#[tactic(auto, using(crate::proofs::Lists::changed_past))]
+fn set_offset(products: &mut Vec<Product>, number: usize, offset: Step3)
+    ensures { products.new.items ≡ changed (with_offset offset) number products.old.items }
 {
     if number < products.len() {
         products[number].offset = offset;
@@ -113,7 +113,7 @@ fn place_products(alloc: Global, reaction: &mut Reaction, placement: ProductPlac
     match placement {
         ProductPlacement::Offset { product, offset } => {
             let mut products = mem::replace(&mut reaction.products, Items::new(alloc)).into_vec();
-            set_offset(products.as_mut_slice(), usize::from(product), offset);
+            set_offset(&mut products, usize::from(product), offset);
             reaction.products = Items::from_vec(products);
         }
         ProductPlacement::Unbind(distance) => reaction.placement = Placement::Unbind(distance),
@@ -121,9 +121,9 @@ fn place_products(alloc: Global, reaction: &mut Reaction, placement: ProductPlac
 }
 
 // Places products of the reaction of this number, if there is one, so.
-#[tactic(auto, using(crate::proofs::Lists::changed_is, crate::proofs::Lists::changed_past))]
-fn set_placement(alloc: Global, list: &mut [Reaction], number: usize, placement: ProductPlacement)
-    ensures { list.new ≡ changed (with_placement placement) number list.old }
+#[tactic(auto, using(crate::proofs::Lists::changed_past))]
+fn set_placement(alloc: Global, list: &mut Vec<Reaction>, number: usize, placement: ProductPlacement)
+    ensures { list.new.items ≡ changed (with_placement placement) number list.old.items }
 {
     if number < list.len() {
         place_products(alloc, &mut list[number], placement);
@@ -131,9 +131,9 @@ fn set_placement(alloc: Global, list: &mut [Reaction], number: usize, placement:
 }
 
 // Keeps another thing of this number, if there is one.
-#[tactic(auto, using(crate::proofs::Lists::changed_is, crate::proofs::Lists::changed_past))]
-fn set_kind(kinds: &mut [Option<PlacementKind>], number: usize, kind: PlacementKind)
-    ensures { kinds.new ≡ changed (λ _. Some kind) number kinds.old }
+#[tactic(auto, using(crate::proofs::Lists::changed_past))]
+fn set_kind(kinds: &mut Vec<Option<PlacementKind>>, number: usize, kind: PlacementKind)
+    ensures { kinds.new.items ≡ changed (λ _. Some kind) number kinds.old.items }
 {
     if number < kinds.len() {
         kinds[number] = Some(kind);
@@ -142,8 +142,8 @@ fn set_kind(kinds: &mut [Option<PlacementKind>], number: usize, kind: PlacementK
 
 // Keeps the probability of the reaction of this number, if there is one.
 #[tactic(auto, using(crate::proofs::Lists::changed_past))]
-fn keep_chance(chances: &mut [Option<u32>], number: usize, chance: u32)
-    ensures { chances.new ≡ changed (λ _. Some chance) number chances.old }
+fn keep_chance(chances: &mut Vec<Option<u32>>, number: usize, chance: u32)
+    ensures { chances.new.items ≡ changed (λ _. Some chance) number chances.old.items }
 {
     if number < chances.len() {
         chances[number] = Some(chance);
@@ -211,7 +211,7 @@ impl Reactions {
         ensures reads { Reads (λ told. binding_radius_told told line.now) self.old self.new result }
     {
         let (number, radius) = binding_radius::judge(&self.names, self.list.as_slice(), line)?;
-        set_radius(self.list.as_mut_slice(), usize::from(number), radius);
+        set_radius(&mut self.list, usize::from(number), radius);
         Ok(())
     }
 
@@ -223,8 +223,8 @@ impl Reactions {
     {
         let (number, chance) =
             reaction_probability::judge(&self.names, self.list.as_slice(), line)?;
-        set_chance(self.list.as_mut_slice(), usize::from(number), chance);
-        keep_chance(self.chances.as_mut_slice(), usize::from(number), chance);
+        set_chance(&mut self.list, usize::from(number), chance);
+        keep_chance(&mut self.chances, usize::from(number), chance);
         Ok(())
     }
 
@@ -250,8 +250,8 @@ impl Reactions {
             line,
         )?;
         let number = usize::from(number);
-        set_placement(alloc, self.list.as_mut_slice(), number, placement);
-        set_kind(self.kinds.as_mut_slice(), number, kind_of(placement));
+        set_placement(alloc, &mut self.list, number, placement);
+        set_kind(&mut self.kinds, number, kind_of(placement));
         Ok(())
     }
 }
