@@ -20,3 +20,7 @@ products_fail species known line kind name sides enough named sided failed = rw 
 pub reactions_fail : (species known : List (List ℕ)) (line : Stated) (kind : Kind) (name : List ℕ) (sides : List ℕ × List ℕ) → nat_le 5 (length (words_of line)) ≡ true → new_name_in known (word_at line 1) ≡ Ok name → sides_in species (arranged_words line) ≡ Ok sides → nat_le (length sides.1) most_products ≡ true → Some kind ≡ unless (nat_lt (length known) most_reactions) TooMany → reaction_in species known line ≡ Err kind
 unfolding reaction_in
 reactions_fail species known line kind name sides enough named sided few failed = rw (enough, named, sided, few, sym failed) refl
+
+pub reaction_is : (species known : List (List ℕ)) (line : Stated) (name : List ℕ) (sides : List ℕ × List ℕ) → nat_le 5 (length (words_of line)) ≡ true → new_name_in known (word_at line 1) ≡ Ok name → sides_in species (arranged_words line) ≡ Ok sides → nat_le (length sides.1) most_products ≡ true → nat_lt (length known) most_reactions ≡ true → reaction_in species known line ≡ Ok (record { name = name; reactants = sides.0; products = sides.1 })
+unfolding reaction_in
+reaction_is species known line name sides enough named sided few room = rw (enough, named, sided, few, room) refl

@@ -21,7 +21,7 @@ pub test_before : {T : Type 0} (condition : Bool) (kind : Kind) (tests : List (O
 test_before true kind tests value last is = (refl, is)
 test_before false kind tests value last is = no_value kind last is
 
-some_same : {T F : Type 0} (x y : T) (result : Result T F) → Ok x ≡ result → result ≡ Ok y → x ≡ y
+pub some_same : {T F : Type 0} (x y : T) (result : Result T F) → Ok x ≡ result → result ≡ Ok y → x ≡ y
 some_same x y result first second = cc
 
 -- what was there

@@ -35,15 +35,15 @@ species_below names word number is = among_below names (species_name word) numbe
 
 -- these numbers are as many as the words, and each is one of so many
 record AreBelow (count : ℕ) (words : List (List ℕ)) (numbers : List ℕ) : Type 0 where
-  count : length numbers ≡ length words
+  as_many : length numbers ≡ length words
   all : All (λ (n : ℕ). n < count) numbers
 
 none_below : (count : ℕ) → AreBelow count [] []
-none_below count = record { count = refl; all = All-nil (λ (n : ℕ). n < count) }
+none_below count = record { as_many = refl; all = All-nil (λ (n : ℕ). n < count) }
 
 one_below : (count number : ℕ) (word : List ℕ) (words : List (List ℕ)) (numbers : List ℕ) → number < count → AreBelow count words numbers → AreBelow count (word ∷ words) (number ∷ numbers)
 one_below count number word words numbers below more = record {
-  count = ap suc more.count;
+  as_many = ap suc more.as_many;
   all = All-cons (λ (n : ℕ). n < count) number numbers below more.all;
 }
 
@@ -118,7 +118,7 @@ sides_are species words sides is =
     let few = sides_few words arranged.0 arranged.1 in
     let reactants = numbers_below species arranged.0.reactants left.0 left.1 in
     let products = numbers_below species arranged.0.products right.0 right.1 in
-    let count = reactants.count in
+    let count = reactants.as_many in
     let above = few.above in
     let below = few.below in
     subst (AreSides (length species)) (some_same (left.0, right.0) sides _ refl right.2)
