@@ -6,3 +6,4 @@ pub mod Passing
 pub mod SchemeLemmas
 pub mod Telling
 pub mod TableLemmas
+pub mod Chances

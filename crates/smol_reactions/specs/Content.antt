@@ -1,5 +1,5 @@
 -- What lines together say of reactions: of several lines on one matter the nearest counts.
-use Rattle.std.specs.Prelude.{ℕ, ◌==◌, ◌&&◌, nat_eq, pos, List, [], ◌∷◌, ◌++◌, length, sum, unwrap_or, Option, None, Some, if◌then◌else◌}
+use Rattle.std.specs.Prelude.{ℕ, ◌+◌, ◌==◌, nat_eq, pos, List, [], ◌∷◌, ◌++◌, length, unwrap_or, Option, None, Some, if◌then◌else◌}
 use Rattle.smol_geom.specs.declared.place.Step3.{Step3}
 use Rattle.smol_num.specs.declared.quantities.Micro.{Micro}
 use Rattle.smol_num.specs.declared.quantities.Threshold.{Threshold}
@@ -105,11 +105,12 @@ kinds_of told = numbered (λ number _. nearest (kind_told number) told) 0 (schem
 abbrev pub chances_of : List Told → List (Option ℕ)
 chances_of told = numbered (λ number _. nearest (chance_told number) told) 0 (schemes_of told)
 
--- the probability of a reaction where the species is its one reactant, in billionths
-abbrev pub chance_alone : ℕ → List Told → ℕ → Scheme → ℕ
-chance_alone species told number scheme =
-    if reacts_alone species scheme.reactants then unwrap_or (nearest (chance_told number) told) 0 else 0
+-- how likely a reaction is where the species is its one reactant, in billionths
+abbrev pub chance_alone : ℕ → Reaction → Option ℕ → ℕ
+chance_alone species reaction chance = if reacts_alone species reaction.reactants then unwrap_or chance 0 else 0
 
--- how likely the first-order reactions of a species are together, in billionths
-abbrev pub chance_sum : ℕ → List Told → ℕ
-chance_sum species told = sum (numbered (chance_alone species told) 0 (schemes_of told))
+-- how likely the reactions of which the species is the one reactant are together, in billionths, by what each was given
+abbrev pub chance_sum : ℕ → List Reaction → List (Option ℕ) → ℕ
+chance_sum species [] chances = 0
+chance_sum species (reaction ∷ reactions) [] = 0
+chance_sum species (reaction ∷ reactions) (chance ∷ chances) = chance_alone species reaction chance + chance_sum species reactions chances

@@ -1,7 +1,9 @@
 //! What a reader keeps of reactions.
 ghost use Rattle.std.specs.Prelude.{◌≡◌, ◌≤◌, [], length, map, IfOk};
 ghost use Rattle.smol_reactions.specs.Numbered.{changed};
-ghost use Rattle.smol_reactions.specs.Content.{usual_threshold};
+ghost use Rattle.smol_types.specs.Limits.{most_reactions};
+ghost use Rattle.smol_types.specs.Reactions.{reacts_alone};
+ghost use Rattle.smol_reactions.specs.Content.{chance_alone, chance_sum, usual_threshold};
 ghost use Rattle.smol_reactions.specs.Changes.{fresh_product, fresh_reaction, with_chance, with_offset, with_placement, with_radius};
 
 use crate::product_placement::{PlacementKind, ProductPlacement, kind_of};
@@ -150,6 +152,40 @@ fn keep_chance(chances: &mut Vec<Option<u32>>, number: usize, chance: u32)
     }
 }
 
+// Whether the species is the one reactant.
+fn reacts_alone(species: u16, reactants: &[u16]) -> bool
+    ensures { result ≡ reacts_alone species reactants.now }
+{
+    match reactants {
+        [one] => *one == species,
+        _ => false,
+    }
+}
+
+// How likely a reaction is where the species is its one reactant, in billionths.
+fn chance_alone(species: u16, reaction: &Reaction, chance: Option<u32>) -> u32
+    ensures { result ≡ chance_alone species reaction.now chance }
+{
+    if reacts_alone(species, reaction.reactants.as_slice()) {
+        chance.unwrap_or(0)
+    } else {
+        0
+    }
+}
+
+// The sum of these over all reactions.
+fn chance_sum(species: u16, list: &[Reaction], chances: &[Option<u32>]) -> u64
+    requires alike { length chances.now ≡ length list.now }
+    requires few { length list.now ≤ most_reactions }
+    ensures { result ≡ chance_sum species list.now chances.now }
+{
+    let mut sum = 0;
+    for i in 0..list.len() {
+        sum += u64::from(chance_alone(species, &list[i], chances[i]));
+    }
+    sum
+}
+
 impl Reactions {
     ghost use Rattle.std.specs.Prelude.{false, ◌++◌, ◌∷◌, OnOk};
     ghost use Rattle.smol_line.specs.Names.{is_named};
@@ -253,5 +289,13 @@ impl Reactions {
         set_placement(alloc, &mut self.list, number, placement);
         set_kind(&mut self.kinds, number, kind_of(placement));
         Ok(())
+    }
+
+    /// How likely the reactions of which the species is the one reactant are together, in billionths.
+    pub fn chance_sum(&self, species: u16) -> u64
+        requires kept { IsKept self.now }
+        ensures { result ≡ chance_sum species self.now.list.items self.now.chances.items }
+    {
+        chance_sum(species, self.list.as_slice(), self.chances.as_slice())
     }
 }
