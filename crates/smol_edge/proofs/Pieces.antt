@@ -1,8 +1,8 @@
 -- What outlets get of lists of pieces, and appending twice.
-use Rattle.std.proofs.Common.{◌≡◌, ℕ, ◌+◌, ◌≤◌, ◌==◌, if◌then◌else◌, true, false, List, [], ◌∷◌, ◌++◌, length, take, drop, refl, sym, ◌∙◌, ap, subst, append_assoc}
+use Rattle.std.proofs.Common.{◌≡◌, ℕ, ◌+◌, ◌==◌, if◌then◌else◌, true, false, List, [], ◌∷◌, ◌++◌, take, drop, refl, sym, ◌∙◌, ap, subst, append_assoc}
 use Rattle.std.proofs.lemmas.List.{append-nil}
 use Rattle.std.proofs.Math.Seq.{take-add}
-use Rattle.smol_edge.specs.Outlets.{Written, Piece, bytes_on, Appends, AppendsFront}
+use Rattle.smol_edge.specs.Outlets.{Written, Piece, bytes_on, Appends}
 
 -- pieces after pieces: each outlet gets its part of both
 pub bytes_on-append : (outlet : ℕ) (xs ys : List Piece) → bytes_on outlet (xs ++ ys) ≡ bytes_on outlet xs ++ bytes_on outlet ys
@@ -44,11 +44,3 @@ pub Appends-further : (place n m : ℕ) (bytes : List ℕ) (a b c : Written) →
 Appends-further place n m bytes a b c first second =
     subst (λ (front : List ℕ). Appends ((place, front) ∷ []) a c) (sym (take-add n m bytes))
     (Appends-joined place (take n bytes) (take m (drop n bytes)) a b c first second)
-
--- a front of the bytes and then nothing are that front
-pub AppendsFront-stopped : (place n : ℕ) (bytes : List ℕ) (a b c : Written) → n ≤ length bytes → Appends ((place, take n bytes) ∷ []) a b → Appends [] b c → AppendsFront place bytes a c
-AppendsFront-stopped place n bytes a b c within first second = record {
-  count = n;
-  within = within;
-  appends = Appends-then ((place, take n bytes) ∷ []) [] a b c first second;
-}

@@ -1,5 +1,6 @@
 pub mod Faults
 pub mod Source
+pub mod TakeFault
 pub mod Outlets
 pub mod Calls
 pub mod MemSource

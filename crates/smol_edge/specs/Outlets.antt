@@ -1,5 +1,5 @@
 -- What outlets tell, and how their calls change it.
-use Rattle.std.specs.Prelude.{◌≡◌, ℕ, ◌+◌, ◌≤◌, ◌==◌, if◌then◌else◌, List, [], ◌∷◌, ◌++◌, length, take}
+use Rattle.std.specs.Prelude.{◌≡◌, ℕ, ◌+◌, ◌-◌, ◌≤◌, ◌==◌, if◌then◌else◌, List, [], ◌∷◌, ◌++◌, length, take}
 
 -- the names opened, in order, and the bytes of each outlet: 0 is standard output, 1 standard error, and 2 and up are the names
 pub record Written : Type 0 where
@@ -30,8 +30,12 @@ pub record IsCounted (count : ℕ) (written : Written) : Type 0 where
   pub count_is : count ≡ length written.names
   pub blank : (outlet : ℕ) → 2 + length written.names ≤ outlet → written.bytes outlet ≡ []
 
--- a front of the bytes was appended to the outlet, and nothing else
-pub record AppendsFront (outlet : ℕ) (bytes : List ℕ) (before after : Written) : Type 0 where
+-- the first bytes of a list of pieces, as many as said. Each keeps its outlet
+abbrev pub front_of : ℕ → List Piece → List Piece
+front_of count [] = []
+front_of count (piece ∷ pieces) = (piece.0, take count piece.1) ∷ front_of (count - length piece.1) pieces
+
+-- a front of the pieces was appended, and nothing else
+pub record AppendsFrontOf (pieces : List Piece) (before after : Written) : Type 0 where
   pub count : ℕ
-  pub within : count ≤ length bytes
-  pub appends : Appends ((outlet, take count bytes) ∷ []) before after
+  pub appends : Appends (front_of count pieces) before after

@@ -13,7 +13,7 @@ pub trait Outlets {
     /// How many files were opened.
     ghost opened: { Self → ℕ };
 
-    /// How often a call has failed. It never falls.
+    /// How often a call has failed. It never falls, and a call that answers `Ok` leaves it as it was.
     ghost faults: { Self → ℕ };
 
     /// Makes the file of this name, or empties it, and answers its outlet.
@@ -25,7 +25,8 @@ pub trait Outlets {
         ensures not_named { OnErr result (Tells (told self.old) (told self.new) (Appends [])) }
         ensures not_counted { OnErr result (opened self.new ≡ opened self.old) }
         ensures faults_stay { faults self.old ≤ faults self.new }
-        ensures cause { OnErr result (Rose (faults self.old) (faults self.new)) };
+        ensures cause { OnErr result (Rose (faults self.old) (faults self.new)) }
+        ensures no_fault { OnOk result (faults self.new ≡ faults self.old) };
 
     /// Appends bytes to an outlet, as many from the front as it likes but at least one, and answers how many.
     fn write(&mut self, outlet: u32, bytes: &[u8]) -> Result<usize, Failed>
@@ -36,7 +37,8 @@ pub trait Outlets {
         ensures not_appended { OnErr result (Tells (told self.old) (told self.new) (Appends [])) }
         ensures opened_stays { opened self.new ≡ opened self.old }
         ensures faults_stay { faults self.old ≤ faults self.new }
-        ensures cause { OnErr result (Rose (faults self.old) (faults self.new)) };
+        ensures cause { OnErr result (Rose (faults self.old) (faults self.new)) }
+        ensures no_fault { OnOk result (faults self.new ≡ faults self.old) };
 
     /// The number opened is that of the names told, and an outlet that isn't opened has no bytes.
     ghost is_counted: { (outlets : Self) → IfSome (told outlets) (IsCounted (opened outlets)) };

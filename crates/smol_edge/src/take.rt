@@ -1,6 +1,7 @@
 //! All bytes of a source.
 ghost use Rattle.std.specs.Prelude.{◌≡◌, ◌+◌, ◌^◌, ◌<◌, ◌≤◌, ⊤, [], IfOk, IfSome, OnOk, OnErr, IsErrOf, length, vec_len};
 ghost use Rattle.smol_edge.specs.Faults.{Rose, Tells};
+ghost use Rattle.smol_edge.specs.TakeFault.{UnlessReadFault};
 ghost use Rattle.smol_edge.specs.Source.{Takes, TakesAll, TakesFront, Gathers};
 
 use crate::{Source, TakeFault};
@@ -40,6 +41,7 @@ fn take_some<S: Source>(
 
     ensures faults_stay { S.faults source.old ≤ S.faults source.new }
     ensures cause { IsErrOf result TakeFault.ReadFault → Rose (S.faults source.old) (S.faults source.new) }
+    ensures no_fault { UnlessReadFault result (S.faults source.new ≡ S.faults source.old) }
 {
     bytes.reserve(buffer.len())?;
     let taken = source.read(buffer)?;
@@ -71,6 +73,7 @@ pub fn take_all<S: Source>(
 
     ensures faults_stay { S.faults source.old ≤ S.faults source.new }
     ensures cause { IsErrOf result TakeFault.ReadFault → Rose (S.faults source.old) (S.faults source.new) }
+    ensures no_fault { UnlessReadFault result (S.faults source.new ≡ S.faults source.old) }
 {
     let mut bytes = Vec::new(alloc);
     let mut chunk = zeros(alloc, CHUNK)?;

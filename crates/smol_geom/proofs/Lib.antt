@@ -1,7 +1,12 @@
+pub mod Cells
+pub mod Counts
 pub mod EachAxis
 pub mod Folds
 pub mod Fractions
 pub mod Integers
 pub mod Lines
+pub mod Lists
+pub mod Order
 pub mod Sizes
+pub mod Sorted
 pub mod Ways

@@ -3,6 +3,7 @@ pub mod Fold
 pub mod Fraction
 pub mod Line
 pub mod Moment
+pub mod Moments
 pub mod Part
 pub mod Place
 pub mod Rect

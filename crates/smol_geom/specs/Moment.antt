@@ -8,7 +8,7 @@ abbrev pub part_of : Moment → Fraction
 part_of m = record { num = pos m.num; den = m.den }
 
 -- the moment lies strictly within its move, which has at most 2^34 ticks on an axis
-pub record IsMoment (m : Moment) : Type 0 where
+pub record IsPart (m : Moment) : Type 0 where
   pub begun : 0 < m.num
   pub unfinished : m.num < m.den
   pub den : m.den ≤ 2 ^ 34

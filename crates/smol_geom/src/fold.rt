@@ -1,7 +1,7 @@
 ghost use Rattle.std.specs.Prelude.{◌≡◌, ◌↔◌, ◌^◌, ◌≤◌, ◌+ℤ◌, ◌*ℤ◌, IsTrue, unsigned_abs};
 ghost use Rattle.smol_geom.specs.Axes.{EachAxis, IsWithin, on_axis};
 ghost use Rattle.smol_geom.specs.Fold.{IsFold, IsSign, true_point};
-ghost use Rattle.smol_geom.specs.Moment.{IsMoment, part_of};
+ghost use Rattle.smol_geom.specs.Moment.{IsPart, part_of};
 ghost use Rattle.smol_geom.specs.Rect.{HoldsPoint};
 
 use crate::moment::Moment;
@@ -24,7 +24,7 @@ pub fn holds_at(rect: &Rect, from: &Place, by: &Step3, m: &Moment, f: &Fold) -> 
     requires high { IsWithin (2 ^ 58) rect.now.high }
     requires from { IsWithin (2 ^ 58) from.now.0 }
     requires by { IsWithin (2 ^ 34) by.now.0 }
-    requires moment { IsMoment m.now }
+    requires moment { IsPart m.now }
     requires fold { IsFold f.now }
     requires shift { IsWithin (2 ^ 58) f.now.shift }
     ensures { IsTrue result ↔ HoldsPoint rect.now (true_point f.now from.now by.now (part_of m.now)) }

@@ -1,8 +1,7 @@
 -- Searches and tests over the numbers below a bound.
 use Rattle.std.proofs.Common.{◌≡◌, ℕ, zero, suc, ◌<◌, ◌≤◌, Bool, true, false, ◌||◌, Some, None, ◌⊎◌, refl, ◌∙◌, ap, inl, inr, ⊎_elim, arith}
 use Rattle.std.proofs.lemmas.Bool.{cases_Bool, cases_eq, cases_order, or_cases, or_parts, false≢true, both_ways}
-use Rattle.smol_plan.specs.Links.{last_below}
-use Rattle.smol_plan.specs.Machine.{any_below}
+use Rattle.smol_plan.specs.Links.{last_below, any_below}
 
 -- what a search for the last number below n gives where it finds one
 pub record FindsLast (p : ℕ → Bool) (n i : ℕ) : Type 0 where

@@ -2,14 +2,17 @@ pub mod SideLemmas
 pub mod BelowLemmas
 pub mod LinkLemmas
 pub mod MatchingLemmas
+pub mod TakenLemmas
+pub mod StateLemmas
 pub mod GoodLemmas
 pub mod GoodKept
 pub mod ProgressLemmas
-pub mod StepLemmas
-pub mod EntryLemmas
-pub mod LinkedLemmas
-pub mod NeighborLemmas
-pub mod PlanLemmas
-pub mod BoardLemmas
-pub mod SoundLemmas
-pub mod StepOfBoard
+pub mod NextLemmas
+mod StepLemmas
+mod EntryLemmas
+mod LinkedLemmas
+mod NeighborLemmas
+mod PlanLemmas
+mod BoardLemmas
+mod StandingLemmas
+mod StepOfBoard

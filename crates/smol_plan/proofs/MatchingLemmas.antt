@@ -4,8 +4,8 @@ use mathlib.Core.Path.{fun_ext}
 use Rattle.smol_plan.specs.declared.pair.Pair.{Pair}
 use Rattle.smol_plan.specs.Pair.{has_molecule, shares_molecule, pair_at, no_pair}
 use Rattle.smol_plan.specs.Matching.{is_free, taken_after, serial_from, fires}
-use Rattle.smol_plan.specs.Machine.{any_below}
 use Rattle.smol_plan.proofs.BelowLemmas.{any_below_front, any_below_or, any_below_same}
+use Rattle.smol_plan.specs.Links.{any_below}
 
 -- whether a molecule is taken after the first j pairs of a walk
 abbrev pub taken_by : (ℕ → Bool) → List Pair → ℕ → ℕ → Bool

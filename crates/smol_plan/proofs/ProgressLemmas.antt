@@ -8,8 +8,8 @@ use Rattle.smol_plan.specs.declared.event.Event.{Event}
 use Rattle.smol_plan.specs.declared.event.Event.TheVariants.{Take, Decide, Tell}
 use Rattle.smol_plan.specs.Pair.{pair_at, molecule_at, shares_molecule}
 use Rattle.smol_plan.specs.Matching.{fires}
-use Rattle.smol_plan.specs.Links.{has_at, is_link}
-use Rattle.smol_plan.specs.Machine.{State, any_below, is_decided, is_fired, left_of, slice_count, slice_of, first_state, IsEnabled, effect}
+use Rattle.smol_plan.specs.Links.{has_at, is_link, any_below}
+use Rattle.smol_plan.specs.Machine.{State, is_decided, is_fired, left_of, slice_count, slice_of, first_state, IsEnabled, effect}
 use Rattle.smol_plan.specs.Good.{Good, IsHeld, IsUntouched, IsSettled, IsOwed}
 use Rattle.smol_plan.specs.Law.{FollowsSerial, OfWorkers, IsFinished, AllDecided, SomeEnabled}
 use Rattle.smol_plan.proofs.BelowLemmas.{any_below-true, any_below-false}

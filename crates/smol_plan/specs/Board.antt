@@ -1,17 +1,17 @@
 -- How the machine is kept, and the state that it is in.
-use Rattle.std.specs.Prelude.{ℕ, suc, ◌≡◌, ◌+◌, Bool, false, not, ◌&&◌, ◌==◌, if◌then◌else◌, List, length, slice_index_or, Some, None}
+use Rattle.std.specs.Prelude.{ℕ, ◌≡◌, ◌+◌, Bool, false, not, ◌&&◌, ◌==◌, if◌then◌else◌, List, length, slice_index_or, Some, None}
 use Rattle.smol_plan.specs.declared.pair.Pair.{Pair}
 use Rattle.smol_plan.specs.declared.pair.Side.{Side}
 use Rattle.smol_plan.specs.declared.pair.Side.TheVariants.{Low, High}
-use Rattle.smol_plan.specs.declared.standing.Decision.{Decision}
+use Rattle.smol_plan.specs.declared.decision.Decision.{Decision}
 use Rattle.smol_plan.specs.declared.standing.Standing.{Standing}
-use Rattle.smol_plan.specs.Pair.{molecule_at, IsOrdered}
-use Rattle.smol_plan.specs.Matching.{fires}
-use Rattle.smol_plan.specs.Links.{has_at, source_of, is_link, is_number, comes_from}
-use Rattle.smol_plan.specs.Machine.{State, any_below, slice_of, slice_count, has_no_link}
+use Rattle.smol_plan.specs.Pair.{IsOrdered}
+use Rattle.smol_plan.specs.Links.{source_of, is_link, is_number, comes_by}
+use Rattle.smol_plan.specs.Machine.{State, slice_of, slice_count, has_no_link}
 use Rattle.smol_plan.specs.Good.{Good}
 use Rattle.smol_plan.specs.Law.{OfWorkers}
-use Rattle.smol_plan.specs.Standing.{fresh, is_taken_on, told_of, ower_of, set_told, set_ower, fired_of}
+use Rattle.smol_plan.specs.Decision.{TellsTaken}
+use Rattle.smol_plan.specs.Standing.{fresh, told_of, ower_of, set_told, set_ower, fired_of}
 
 -- the pairs, how many workers there are, which slices are taken, and how it stands with each pair
 pub record Board : Type 0 where
@@ -39,17 +39,8 @@ state_from slices standings =
 abbrev pub state_of : Board → State
 state_of board = state_from board.slices board.standings
 
--- whether a pair before the place n that has the molecule m fires
-abbrev pub is_taken_before : List Pair → ℕ → ℕ → Bool
-is_taken_before pairs m n = any_below (λ i. fires pairs i && has_at pairs m i) n
-
--- the decision says of each molecule of the pair whether it is taken after the pair
-abbrev pub TellsTaken : List Pair → ℕ → Decision → Type 0
-TellsTaken pairs j d =
-    (side : Side) → is_taken_on d side ≡ is_taken_before pairs (molecule_at pairs j side) (suc j)
-
 -- the machine is kept as it should be, and its state is good
-pub record IsSound (board : Board) : Type 0 where
+pub record IsWellKept (board : Board) : Type 0 where
   pub ordered : IsOrdered board.pairs
   pub one_each : length board.standings ≡ length board.pairs
   pub all_slices : length board.slices ≡ slice_count board.pairs
@@ -61,11 +52,6 @@ pub record IsSound (board : Board) : Type 0 where
 abbrev pub after_slice : List Pair → ℕ → ℕ → ℕ → Standing → Standing
 after_slice pairs worker slice j s =
     if (slice_of j == slice) && has_no_link pairs j then record s { holder = Some worker } else s
-
--- whether the link of k on a side comes from the pair j, by the molecule that j has on this side
-abbrev pub comes_by : List Pair → ℕ → Side → ℕ → Side → Bool
-comes_by pairs j side k t =
-    comes_from pairs j k t && (molecule_at pairs k t == molecule_at pairs j side)
 
 -- the standing of the pair k after the worker owes the link that comes from the pair j by this molecule
 abbrev pub after_owing : List Pair → ℕ → Side → ℕ → ℕ → Standing → Standing

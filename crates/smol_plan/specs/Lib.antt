@@ -5,6 +5,7 @@ pub mod Machine
 pub mod Good
 pub mod Law
 pub mod Linked
+pub mod Decision
 pub mod Standing
 pub mod Board
 pub mod Kept

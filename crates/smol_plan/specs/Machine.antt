@@ -1,5 +1,5 @@
 -- The machine by which workers decide the pairs of a list. A set is its test.
-use Rattle.std.specs.Prelude.{ℕ, zero, suc, ◌≡◌, ◌<◌, ◌+◌, ◌/◌, Bool, true, false, not, ◌&&◌, ◌||◌, ◌==◌, nat_lt, List, [], ◌∷◌, length, Option, Some, None, unwrap_or, if◌then◌else◌}
+use Rattle.std.specs.Prelude.{ℕ, ◌≡◌, ◌<◌, ◌+◌, ◌/◌, Bool, true, false, not, ◌&&◌, ◌||◌, ◌==◌, nat_lt, List, [], ◌∷◌, length, Option, Some, None, unwrap_or, if◌then◌else◌}
 use Rattle.std.specs.Option.{is_some}
 use Rattle.smol_plan.specs.declared.pair.Pair.{Pair}
 use Rattle.smol_plan.specs.declared.pair.Side.{Side}
@@ -7,7 +7,7 @@ use Rattle.smol_plan.specs.declared.pair.Side.TheVariants.{Low, High}
 use Rattle.smol_plan.specs.declared.event.Event.{Event}
 use Rattle.smol_plan.specs.declared.event.Event.TheVariants.{Take, Decide, Tell}
 use Rattle.smol_plan.specs.Pair.{pair_at, shares_molecule, is_side}
-use Rattle.smol_plan.specs.Links.{is_link, comes_from}
+use Rattle.smol_plan.specs.Links.{is_link, comes_from, any_below}
 
 -- which slices are taken, what is decided of each pair (fired, refused or nothing), which links are told,
 -- which worker holds which pair, and which worker owes which link
@@ -57,11 +57,6 @@ is_untold pairs state j side = is_link pairs j side && not (state.told j side)
 abbrev pub left_of : List Pair → State → ℕ → ℕ
 left_of pairs state j =
     (if is_untold pairs state j Low then 1 else 0) + (if is_untold pairs state j High then 1 else 0)
-
--- whether some number below n passes a test
-unfoldable pub any_below : (ℕ → Bool) → ℕ → Bool
-any_below p zero = false
-any_below p (suc n) = p n || any_below p n
 
 -- whether an earlier pair that shares a molecule with this one is fired
 abbrev pub is_beaten : List Pair → State → ℕ → Bool

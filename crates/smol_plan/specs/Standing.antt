@@ -1,19 +1,14 @@
 -- How it stands with one pair: what is kept of it.
-use Rattle.std.specs.Prelude.{ℕ, Bool, true, false, not, ◌||◌, Option, Some, None}
+use Rattle.std.specs.Prelude.{ℕ, Bool, true, false, Option, Some, None}
 use Rattle.smol_plan.specs.declared.pair.Side.{Side}
 use Rattle.smol_plan.specs.declared.pair.Side.TheVariants.{Low, High}
-use Rattle.smol_plan.specs.declared.standing.Decision.{Decision}
+use Rattle.smol_plan.specs.declared.decision.Decision.{Decision}
 use Rattle.smol_plan.specs.declared.standing.Standing.{Standing}
 
 -- of a pair of which nothing has happened
 abbrev pub fresh : Standing
 fresh =
     record { decision = None; holder = None; told_low = false; told_high = false; ower_low = None; ower_high = None }
-
--- whether the molecule on a side is taken after the pair
-abbrev pub is_taken_on : Decision → Side → Bool
-is_taken_on d Low = d.low_taken
-is_taken_on d High = d.high_taken
 
 -- whether the link on a side is told
 abbrev pub told_of : Standing → Side → Bool
@@ -39,9 +34,3 @@ set_ower s High o = record s { ower_high = o }
 abbrev pub fired_of : Option Decision → Option Bool
 fired_of None = None
 fired_of (Some d) = Some d.fired
-
--- a pair fires where neither of its molecules is taken before it, and then both are taken
-abbrev pub decision_after : Bool → Bool → Decision
-decision_after low high =
-    let fired = not (low || high) in
-    record { fired = fired; low_taken = low || fired; high_taken = high || fired }

@@ -5,6 +5,7 @@
 //! and each pair is still decided as serial matching decides it.
 #![tactic(auto)]
 
+mod decision;
 mod event;
 mod law;
 mod machine;
@@ -15,6 +16,7 @@ mod standing;
 #[cfg(test)]
 mod tests;
 
+pub use decision::Decision;
 pub use event::Event;
 pub use law::{each_order_ends, each_order_follows_serial, each_order_is_short};
 pub use machine::Core;

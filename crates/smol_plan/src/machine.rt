@@ -2,15 +2,18 @@
 ghost use Rattle.std.specs.Prelude.{◌≡◌, ℕ, ◌+◌, ◌<◌, ◌≤◌, ◌↔◌, length, IfOk, IsTrue};
 ghost use Rattle.smol_plan.specs.Pair.{molecule_at};
 ghost use Rattle.smol_plan.specs.Matching.{fires};
-ghost use Rattle.smol_plan.specs.Links.{is_link, is_number};
-ghost use Rattle.smol_plan.specs.Machine.{first_state, slice_count, has_no_link, left_of, effect, after_take, after_decide, after_tell, IsEnabled};
+ghost use Rattle.smol_plan.specs.Links.{is_link, is_number, is_taken_before};
+ghost use Rattle.smol_plan.specs.Machine.{first_state, slice_count, left_of, effect, after_take, after_decide, after_tell, IsEnabled};
 ghost use Rattle.smol_plan.specs.Good.{Good};
-ghost use Rattle.smol_plan.specs.Board.{state_of, standing_at, is_taken_before, TellsTaken, after_slice, after_owing, untold_count, after_telling, SourcesTell};
+ghost use Rattle.smol_plan.specs.Decision.{TellsTaken};
+ghost use Rattle.smol_plan.specs.Law.{OfWorkers};
+ghost use Rattle.smol_plan.specs.Board.{state_of, standing_at, after_slice, after_owing, untold_count, after_telling, SourcesTell};
 
+use crate::decision::Decision;
 use crate::event::Event;
 use crate::pair::Side;
 use crate::plan::Plan;
-use crate::standing::{Decision, Standing};
+use crate::standing::Standing;
 use std::alloc::{AllocError, Global};
 use std::marker::Model;
 
@@ -24,7 +27,7 @@ pub struct Core {
 }
 
 impl Model for Core {
-    ghost use Rattle.smol_plan.specs.Board.{Board, IsSound};
+    ghost use Rattle.smol_plan.specs.Board.{Board, IsWellKept};
 
     ghost Value = { Board };
 
@@ -32,7 +35,7 @@ impl Model for Core {
 
     ghost view = { board_of };
 
-    ghost invariant = { λ core. IsSound (board_of core) };
+    ghost invariant = { λ core. IsWellKept (board_of core) };
 }
 
 // Whether it is this worker.
@@ -43,14 +46,6 @@ fn is_worker(one: Option<u32>, worker: u32) -> bool
         Some(other) => other == worker,
         None => false,
     }
-}
-
-// Whether a pair waits for no other.
-fn is_unlinked(plan: &Plan, pair: usize) -> bool
-    requires { pair < length plan.now }
-    ensures { result ≡ has_no_link plan.now pair }
-{
-    plan.before(pair, Side::Low).is_none() && plan.before(pair, Side::High).is_none()
 }
 
 // How many links of a pair are not told.
@@ -72,7 +67,7 @@ fn hold_slice(plan: &Plan, standings: &mut [Standing], slice: usize, worker: u32
 {
     let range = plan.slice(slice);
     for pair in range.start..range.end {
-        if is_unlinked(plan, pair) {
+        if plan.is_unlinked(pair) {
             standings[pair].holder = Some(worker);
         }
     }
@@ -154,7 +149,9 @@ impl Core {
     /// Whether an event may happen: its numbers are of a worker, a slice or a pair, and the slice is not taken, the
     /// worker holds the pair, or the worker owes the link.
     pub fn enabled(&self, event: &Event) -> bool
-        ensures { IsTrue result ↔ IsEnabled self.now.pairs self.now.workers (state_of self.now) event.now }
+        ensures enabled { IsTrue result ↔ IsEnabled self.now.pairs self.now.workers (state_of self.now) event.now }
+        ensures good { Good self.now.pairs (state_of self.now) }
+        ensures of_workers { OfWorkers self.now.workers (state_of self.now) }
     {
         match *event {
             Event::Take { worker, slice } => {

@@ -1,15 +1,8 @@
 //! How it stands with one pair of the machine.
 ghost use Rattle.std.specs.Prelude.{◌≡◌};
 
+use crate::decision::Decision;
 use crate::pair::Side;
-
-/// What was decided of a pair, and whether each of its molecules is taken by it or by a pair before it.
-#[derive(Clone, Copy, Debug)]
-pub(crate) struct Decision {
-    pub(crate) fired: bool,
-    pub(crate) low_taken: bool,
-    pub(crate) high_taken: bool,
-}
 
 /// How it stands with a pair: what is decided, which of its links are told, and who holds it and owes its links.
 #[derive(Clone, Copy, Debug)]
@@ -20,31 +13,6 @@ pub(crate) struct Standing {
     told_high: bool,
     ower_low: Option<u32>,
     ower_high: Option<u32>,
-}
-
-impl Decision {
-    ghost use Rattle.smol_plan.specs.Standing.{decision_after, is_taken_on};
-
-    /// Of a pair of whose molecules these are taken before it.
-    pub(crate) fn after(low: bool, high: bool) -> Self
-        ensures { result ≡ decision_after low high }
-    {
-        let fired = !(low || high);
-        Decision {
-            fired,
-            low_taken: low || fired,
-            high_taken: high || fired,
-        }
-    }
-
-    pub(crate) fn is_taken(&self, side: Side) -> bool
-        ensures { result ≡ is_taken_on self.now side }
-    {
-        match side {
-            Side::Low => self.low_taken,
-            Side::High => self.high_taken,
-        }
-    }
 }
 
 impl Standing {

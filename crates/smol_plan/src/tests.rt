@@ -185,3 +185,32 @@ fn both_links_of_a_pair_are_told(rt: HostRuntime) -> Result<(), Fail> {
     assert_eq!(rt; look(&core, 1), HELD);
     Ok(())
 }
+
+// Pairs of two molecules each that no other pair has.
+fn apart(alloc: Global, count: u64) -> Result<Vec<Pair>, AllocError>
+    requires { count < 1000 }
+    ensures ordered { IfOk result (λ pairs. IsOrdered pairs.items) }
+    ensures len { IfOk result (λ pairs. length pairs.items ≡ count) }
+{
+    let mut pairs = Vec::new(alloc);
+    for k in 0..count {
+        pairs.push(Pair {
+            a: 2 * k,
+            b: 2 * k + 1,
+            reaction: 0,
+        })?;
+    }
+    Ok(pairs)
+}
+
+#[test]
+fn a_slice_has_64_pairs(rt: HostRuntime) -> Result<(), Fail> {
+    let one = Plan::of_pairs(&rt, rt.alloc(), apart(rt.alloc(), 64)?)?;
+    assert_eq!(rt; one.slices(), 1);
+    assert_eq!(rt; one.slice(0), 0..64);
+    let two = Plan::of_pairs(&rt, rt.alloc(), apart(rt.alloc(), 65)?)?;
+    assert_eq!(rt; two.slices(), 2);
+    assert_eq!(rt; two.slice(0), 0..64);
+    assert_eq!(rt; two.slice(1), 64..65);
+    Ok(())
+}

@@ -14,5 +14,5 @@ loop-written-preserved g c =
           Tells-then _ _ _ _ _ _ (λ a b d first second. Appends-further c.args.outlet c.loop-written.written c.in_ok-written.field-0 c.args.bytes.now a b d first second)
           c.loop-written.invariant.appended step.appended;
       opened_stays = c.in_ok-written.ensures.opened_stays ∙ c.loop-written.invariant.opened_stays;
-      faults_stay = omega (arith, c.in_ok-written.ensures.faults_stay);
+      no_fault = c.in_ok-written.ensures.no_fault ∙ c.loop-written.invariant.no_fault;
     }

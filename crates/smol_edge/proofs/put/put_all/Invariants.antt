@@ -8,7 +8,7 @@ invariant-loop-written g l = record {
   within : l.written ≤ length l.bytes;
   appended : Tells (g.K.Outlets.told l.fn.outlets) (g.K.Outlets.told l.outlets) (Appends ((l.outlet, take l.written l.bytes) ∷ []));
   opened_stays : g.K.Outlets.opened l.outlets ≡ g.K.Outlets.opened l.fn.outlets;
-  faults_stay : g.K.Outlets.faults l.fn.outlets ≤ g.K.Outlets.faults l.outlets;
+  no_fault : g.K.Outlets.faults l.outlets ≡ g.K.Outlets.faults l.fn.outlets;
 }
 
 abbrev pub decreases-loop-written : goal.decreases-loop-written

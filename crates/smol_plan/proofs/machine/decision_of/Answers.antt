@@ -1,5 +1,5 @@
 use Rattle.std.proofs.Common.{◌∙◌, sym, ap}
-use Rattle.smol_plan.proofs.BoardLemmas.{fires_free, TellsTaken-after}
+use Rattle.smol_plan.proofs.TakenLemmas.{fires_free, TellsTaken-after}
 use Rattle.smol_plan.proofs.machine.decision_of.Goals as goal
 
 pub returns-clause-fired : goal.returns-clause-fired

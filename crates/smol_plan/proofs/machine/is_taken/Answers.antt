@@ -1,5 +1,5 @@
 use Rattle.std.proofs.Common.{◌≡◌, ◌∙◌, sym, Some, None}
-use Rattle.smol_plan.proofs.BoardLemmas.{is_taken_before-none, is_taken_before-source}
+use Rattle.smol_plan.proofs.TakenLemmas.{is_taken_before-none, is_taken_before-source}
 use Rattle.smol_plan.proofs.machine.is_taken.Goals as goal
 
 pub returns-in-Some-decision : goal.returns-in-Some-decision

@@ -1,9 +1,9 @@
 use Rattle.std.proofs.Common.{◌≡◌, length, replicate, false, ◌∙◌, ap}
 use Rattle.smol_plan.specs.Machine.{slice_count}
 use Rattle.smol_plan.specs.Standing.{fresh}
-use Rattle.smol_plan.specs.Board.{IsSound, state_of}
+use Rattle.smol_plan.specs.Board.{IsWellKept, state_of}
 use Rattle.smol_plan.specs.Pair.{IsOrdered}
-use Rattle.smol_plan.proofs.StepOfBoard.{IsSound-first, first_is}
+use Rattle.smol_plan.proofs.StepOfBoard.{IsWellKept-first, first_is}
 use Rattle.smol_plan.proofs.machine.Core.open.Goals as goal
 
 pub invariant_of-result : goal.invariant_of-result
@@ -11,7 +11,7 @@ invariant_of-result c =
     let slices : c.in_ok-taken.taken.items ≡ replicate (slice_count c.args.plan) false = c.in_ok-taken.ensures.items_if_clones_equal (λ y e. e) ∙ ap (λ n. replicate n false) c.slices.ensures in
     let standings : c.in_ok-standings.standings.items ≡ replicate (length c.args.plan) fresh = c.in_ok-standings.ensures.items_if_clones_equal (λ y e. e) ∙ ap (λ n. replicate n c.fresh.result) c.len.ensures ∙ ap (replicate (length c.args.plan)) c.fresh.ensures in
     let ordered : IsOrdered c.args.plan = rw c.plan.view_is at c.plan.invariant.ordered in
-    let sound : IsSound record { pairs = c.args.plan; workers = c.args.workers; slices = c.in_ok-taken.taken.items; standings = c.in_ok-standings.standings.items } = rw (slices, standings) (IsSound-first c.args.plan c.args.workers ordered) in
+    let sound : IsWellKept record { pairs = c.args.plan; workers = c.args.workers; slices = c.in_ok-taken.taken.items; standings = c.in_ok-standings.standings.items } = rw (slices, standings) (IsWellKept-first c.args.plan c.args.workers ordered) in
     sound
 
 pub returns-clause-first : goal.returns-clause-first
@@ -25,5 +25,5 @@ returns-clause-good c =
     let slices : c.in_ok-taken.taken.items ≡ replicate (slice_count c.args.plan) false = c.in_ok-taken.ensures.items_if_clones_equal (λ y e. e) ∙ ap (λ n. replicate n false) c.slices.ensures in
     let standings : c.in_ok-standings.standings.items ≡ replicate (length c.args.plan) fresh = c.in_ok-standings.ensures.items_if_clones_equal (λ y e. e) ∙ ap (λ n. replicate n c.fresh.result) c.len.ensures ∙ ap (replicate (length c.args.plan)) c.fresh.ensures in
     let ordered : IsOrdered c.args.plan = rw c.plan.view_is at c.plan.invariant.ordered in
-    let sound : IsSound record { pairs = c.args.plan; workers = c.args.workers; slices = c.in_ok-taken.taken.items; standings = c.in_ok-standings.standings.items } = rw (slices, standings) (IsSound-first c.args.plan c.args.workers ordered) in
+    let sound : IsWellKept record { pairs = c.args.plan; workers = c.args.workers; slices = c.in_ok-taken.taken.items; standings = c.in_ok-standings.standings.items } = rw (slices, standings) (IsWellKept-first c.args.plan c.args.workers ordered) in
     sound.good

@@ -1,0 +1,73 @@
+-- Closed reflecting boxes, which hold what is in them.
+use Rattle.std.specs.Prelude.{◌≡◌, ◌≢◌, ℕ, ◌<◌, Bool, true, false, List, [], ◌∷◌, Contains, ℤ, ◌≤ℤ◌, ◌<ℤ◌}
+use Rattle.smol_geom.specs.declared.place.Place.{Place}
+use Rattle.smol_geom.specs.declared.place.Step3.{Step3}
+use Rattle.smol_geom.specs.declared.moment.Moment.{Moment}
+use Rattle.smol_geom.specs.declared.cuboid.Cuboid.{Cuboid}
+use Rattle.smol_geom.specs.Axes.{on_axis}
+use Rattle.smol_geom.specs.Fraction.{Fraction, whole, ◌≤ℚ◌}
+use Rattle.smol_geom.specs.Fold.{true_point}
+use Rattle.smol_geom.specs.Moment.{part_of}
+use Rattle.smol_geom.specs.Moments.{moments}
+use Rattle.smol_meaning.specs.declared.way.Response.{Response}
+use Rattle.smol_meaning.specs.declared.way.Response.TheVariants.{Reflect, Absorb, Jump, Pass}
+use Rattle.smol_meaning.specs.declared.way.Standing.{Standing}
+use Rattle.smol_meaning.specs.declared.way.Standing.TheVariants.{Goes, Gone}
+use Rattle.smol_meaning.specs.declared.way.Travelled.{Travelled}
+use Rattle.smol_meaning.specs.declared.way.Travelled.TheVariants.{At, Absorbed}
+use Rattle.smol_meaning.specs.Plates.{Sheet, Rectangle, Plane, Plate, IsOn, response_of, sheet_axis, sheet_plane}
+use Rattle.smol_meaning.specs.Way.{after_moment, straight}
+
+-- the place is inside the box: strictly between its faces. A place is odd and a face even, so no place is on a face
+abbrev pub IsInside : Cuboid → Place → Type 0
+IsInside box place =
+    (axis : ℕ) → axis < 3 → (on_axis box.low axis <ℤ on_axis place.0 axis) × (on_axis place.0 axis <ℤ on_axis box.high axis)
+
+-- the point is in the closed region of the box, its faces included
+abbrev pub IsInRegion : Cuboid → (ℕ → Fraction) → Type 0
+IsInRegion box point =
+    (axis : ℕ) → axis < 3 → (whole (on_axis box.low axis) ≤ℚ point axis) × (point axis ≤ℚ whole (on_axis box.high axis))
+
+-- on the other axes a sheet reaches at least as far as the box: a plane has no edges
+abbrev pub Covers : Sheet → Cuboid → Type 0
+Covers (Plane axis plane) box = Unit {0}
+Covers (Rectangle rect) box =
+    (j : ℕ) → j < 3 → j ≢ rect.axis
+    → (on_axis rect.low j ≤ℤ on_axis box.low j) × (on_axis box.high j ≤ℤ on_axis rect.high j)
+
+-- a plate of the list holds the whole face of the box that lies across an axis at a plane, and reflects what arrives there
+-- from within: on an upper face what goes up, on a lower one what goes down
+pub record IsFaceShut (plates : List Plate) (box : Cuboid) (axis : ℕ) (plane : ℤ) (upper : Bool) : Type 0 where
+  pub plate : Plate
+  pub listed : Contains plates plate
+  pub across : sheet_axis plate.sheet ≡ axis
+  pub at_plane : sheet_plane plate.sheet ≡ plane
+  pub covers : Covers plate.sheet box
+  pub reflects : response_of plate upper ≡ Reflect
+
+-- the response moves no molecule elsewhere
+abbrev pub StaysPut : Response → Type 0
+StaysPut Reflect = Unit {0}
+StaysPut (Absorb number) = Unit {0}
+StaysPut (Jump by up) = ⊥
+StaysPut Pass = Unit {0}
+
+-- the plates make a closed reflecting box for their species: each face on the axes in use is shut, and no plate with a point
+-- of the closed region jumps
+pub record IsClosed (dims : ℕ) (plates : List Plate) (box : Cuboid) : Type 0 where
+  pub lower : (axis : ℕ) → axis < dims → IsFaceShut plates box axis (on_axis box.low axis) false
+  pub upper : (axis : ℕ) → axis < dims → IsFaceShut plates box axis (on_axis box.high axis) true
+  pub quiet : (plate : Plate) → Contains plates plate → (point : ℕ → Fraction) → IsInRegion box point → IsOn plate.sheet point
+      → StaysPut plate.from_below × StaysPut plate.from_above
+
+-- from here on each true point of the way at a moment is in the closed region of the box
+abbrev pub StaysInRegion : List Plate → Cuboid → Place → Step3 → Standing → List Moment → Type 0
+StaysInRegion plates box from by standing [] = Unit {0}
+StaysInRegion plates box from by (Gone number) (m ∷ ms) = Unit {0}
+StaysInRegion plates box from by (Goes f) (m ∷ ms) =
+    IsInRegion box (true_point f from by (part_of m)) × StaysInRegion plates box from by (after_moment plates from by (Goes f) m) ms
+
+-- a way that isn't absorbed ends inside the box
+abbrev pub EndsInside : Cuboid → Travelled → Type 0
+EndsInside box (At place) = IsInside box place
+EndsInside box (Absorbed number) = Unit {0}

@@ -1,0 +1,33 @@
+use smol_geom::{Fold, Place};
+
+/// What a panel or a wall does to a molecule that arrives on one of its faces.
+#[derive(Clone, Copy, Debug, PartialEq, Eq)]
+pub enum Response {
+    /// It mirrors the motion across it.
+    Reflect,
+    /// It ends the way. This is its number.
+    Absorb { number: u16 },
+    /// It moves the molecule by so many ticks on each axis. From there the motion leads to greater coordinates
+    /// where `up` holds, and else to lesser ones.
+    Jump { by: [i64; 3], up: bool },
+    /// It lets the molecule through.
+    Pass,
+}
+
+/// Where a way has led so far.
+#[derive(Clone, Copy, Debug, PartialEq, Eq)]
+pub enum Standing {
+    /// On, by this fold.
+    Goes { fold: Fold },
+    /// Onto the panel or wall of this number, which absorbs.
+    Gone { number: u16 },
+}
+
+/// Where a way ends.
+#[derive(Clone, Copy, Debug, PartialEq, Eq)]
+pub enum Travelled {
+    /// At this place.
+    At(Place),
+    /// On the panel or wall of this number, which absorbs.
+    Absorbed(u16),
+}
