@@ -7,6 +7,7 @@ pub mod Nearness
 pub mod Bounds
 pub mod Seeing
 pub mod Ends
+pub mod Confined
 pub mod Kept
 pub mod Diffusing
 pub mod Meeting

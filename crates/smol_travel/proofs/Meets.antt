@@ -13,8 +13,7 @@ use Rattle.smol_geom.specs.Moment.{part_of}
 use Rattle.smol_geom.specs.Moments.{IsMoment}
 use Rattle.smol_geom.specs.Rect.{HoldsPoint, IsRect}
 use Rattle.smol_meaning.specs.Plates.{Rectangle, Plane, is_met, is_between, plane_at}
-use Rattle.smol_meaning.proofs.Planes.{met_plane, between_plane}
-use Rattle.smol_meaning.proofs.Responses.{between_from}
+use Rattle.smol_meaning.proofs.Planes.{met_plane, plane_met}
 use Rattle.smol_travel.proofs.Scan.{holds_agrees}
 
 module _ (from : Place) (by : Step3) (f : Fold) (m : Moment) (sign : IsSign (on_axis f.sign m.axis)) (is : IsMoment from by m) where
@@ -28,20 +27,8 @@ module _ (from : Place) (by : Step3) (f : Fold) (m : Moment) (sign : IsSign (on_
   rect_apart rect plane shape here apart =
       sym (false_from_ne_true (is_met from by f m (Rectangle rect)) (λ e. let at = met_plane from by f m sign is (Rectangle rect) shape e in apart (sym at.0, sym at.1 ∙ sym here)))
 
-  same_plane : (a b : ℤ) → a ≡ b → (a ≤ℤ b) × (b ≤ℤ a)
-  same_plane a b e = (omega (arith, ints, e), omega (arith, ints, e))
-
-  -- a wall is met where it lies across the axis of the moment at the plane of the moment
-  wall_there : (axis : ℕ) (own : ℤ) → axis ≡ m.axis → own ≡ plane_at from by f m → is_met from by f m (Plane axis own) ≡ true
-  wall_there axis own axes e =
-      and_from (axis == m.axis) (is_between own own (true_point f from by (part_of m) axis)) (eq-eqb axis m.axis axes)
-      (subst (λ j. is_between own own (true_point f from by (part_of m) j) ≡ true) (sym axes)
-      (let orders = same_plane own (plane_at from by f m) e in
-      let ends = between_plane from by f m sign is own own orders.0 orders.1 in
-      between_from own own (true_point f from by (part_of m) m.axis) ends.0 ends.1))
-
   pub wall_agrees : (axis : ℕ) (own plane : ℤ) (t : Bool) → plane ≡ plane_at from by f m → (IsTrue t ↔ ((axis ≡ m.axis) × (own ≡ plane))) → t ≡ is_met from by f m (Plane axis own)
-  wall_agrees axis own plane true here says = let at = says.0 refl in sym (wall_there axis own at.0 (at.1 ∙ here))
+  wall_agrees axis own plane true here says = let at = says.0 refl in sym (plane_met from by f m sign is axis own at.0 (at.1 ∙ here))
   wall_agrees axis own plane false here says =
       sym (false_from_ne_true (is_met from by f m (Plane axis own)) (λ e.
       let at = met_plane from by f m sign is (Plane axis own) tt e in

@@ -1,6 +1,8 @@
 ghost use Rattle.std.specs.Prelude.{◌≡◌, ◌<◌, ◌^◌, length};
+ghost use Rattle.smol_geom.specs.declared.cuboid.Cuboid.{Cuboid};
 ghost use Rattle.smol_geom.specs.Moments.{IsMoment};
 ghost use Rattle.smol_types.specs.Sound.{IsSound};
+ghost use Rattle.smol_meaning.specs.Box.{Confines, EndsInside, IsClosed, IsInside};
 ghost use Rattle.smol_meaning.specs.Crossing.{CrossesNone};
 ghost use Rattle.smol_meaning.specs.Folds.{FoldFits, StandingFits};
 ghost use Rattle.smol_meaning.specs.Moves.{IsMove, EndsWithin};
@@ -33,6 +35,10 @@ pub fn travel(panels: &Panels, species: u16, from: Place, by: Step3) -> Travelle
     ensures way { result ≡ way panels.now species from by }
     ensures crosses_none { CrossesNone (plates_of panels.now species) from by }
     ensures end { EndsWithin panels.now.dims from by result }
+    ensures confined { (box : Cuboid) → IsClosed panels.now.dims (plates_of panels.now species) box → IsInside box from
+        → Confines (plates_of panels.now species) from by box }
+    ensures inside { (box : Cuboid) → IsClosed panels.now.dims (plates_of panels.now species) box → IsInside box from
+        → EndsInside box result }
 {
     let config = panels.config();
     let mut fold = STRAIGHT;

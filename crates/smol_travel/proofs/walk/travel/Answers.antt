@@ -7,8 +7,11 @@ use Rattle.smol_meaning.specs.declared.way.Travelled.TheVariants.{At}
 use Rattle.smol_meaning.specs.Moves.{IsMove, EndsWithin}
 use Rattle.smol_meaning.specs.Seen.{plates_of, way}
 use Rattle.smol_meaning.specs.Way.{after_moments, ended, straight, way_among}
+use Rattle.smol_meaning.specs.Box.{EndsInside}
+use Rattle.smol_meaning.proofs.Confined.{confined}
 use Rattle.smol_meaning.proofs.Crossings.{crosses_none}
 use Rattle.smol_meaning.proofs.Ends.{straight_fits, way_ends_within}
+use Rattle.smol_meaning.proofs.Seeing.{plates_fit}
 use Rattle.smol_travel.specs.Meetings.{NothingBefore, NothingLeft, sheets_of}
 use Rattle.smol_travel.proofs.Walking.{after_beginning, none_seen, step_on, fewer_left, stays, gone_stays}
 use Rattle.smol_travel.proofs.walk.travel.Goals as goal
@@ -77,3 +80,19 @@ pub returns-clause-end : goal.returns-clause-end
 returns-clause-end c =
     subst (EndsWithin c.args.panels.now.dims c.args.from c.args.by) (sym (returns-clause-way c))
     (way_ends_within c.args.panels.now c.args.species c.args.from c.args.by c.config-config.ensures.sound c.requires.moving)
+
+pub returns-in-Gone-clause-confined : goal.returns-in-Gone-clause-confined
+returns-in-Gone-clause-confined c = λ box closed start.
+    confined c.args.panels.now.dims (plates_of c.args.panels.now c.args.species) box c.args.from c.args.by c.requires.moving
+    (plates_fit c.args.panels.now c.args.species c.config-config.ensures.sound) closed start
+
+pub returns-clause-confined : goal.returns-clause-confined
+returns-clause-confined c = λ box closed start.
+    confined c.args.panels.now.dims (plates_of c.args.panels.now c.args.species) box c.args.from c.args.by c.requires.moving
+    (plates_fit c.args.panels.now c.args.species c.config-config.ensures.sound) closed start
+
+pub returns-clause-inside : goal.returns-clause-inside
+returns-clause-inside c = λ box closed start.
+    let held = confined c.args.panels.now.dims (plates_of c.args.panels.now c.args.species) box c.args.from c.args.by c.requires.moving
+    (plates_fit c.args.panels.now c.args.species c.config-config.ensures.sound) closed start in
+    subst (EndsInside box) (sym (returns-clause-way c)) held.end
