@@ -4,6 +4,6 @@ pub mod Judged
 pub mod Lists
 pub mod Passing
 pub mod SchemeLemmas
-pub mod Telling
+pub mod MoreSaid
 pub mod TableLemmas
 pub mod Chances

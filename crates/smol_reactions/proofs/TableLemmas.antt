@@ -7,7 +7,7 @@ use Rattle.smol_reactions.specs.declared.product_placement.ProductPlacement.{Pro
 use Rattle.smol_reactions.specs.declared.product_placement.ProductPlacement.TheVariants.{Offset, Unbind}
 use Rattle.smol_reactions.specs.Numbered.{changed}
 use Rattle.smol_reactions.specs.Reaction.{names_of, HasFewProducts}
-use Rattle.smol_reactions.specs.Told.{Told}
+use Rattle.smol_reactions.specs.ReactionSaid.{ReactionSaid}
 use Rattle.smol_reactions.specs.Content.{schemes_of, reaction_made, reactions_of}
 use Rattle.smol_reactions.specs.Changes.{with_offset, with_placement}
 use Rattle.smol_reactions.proofs.Lists.{length-changed, map-changed, All-changed, length-numbered}
@@ -44,7 +44,7 @@ placed_few (Unbind distance) reaction few = few
 pub placed_mild : (placement : ProductPlacement) → IsMild (with_placement placement)
 placed_mild placement = record { name = placed_name placement; products = placed_few placement }
 
--- a number in the list is that of a reaction that is told
-pub number_told : (list : List Reaction) (told : List Told) (number : ℕ) → list ≡ reactions_of told → number < length list → number < length (schemes_of told)
-number_told list told number is below =
-    subst (λ (n : ℕ). number < n) (ap (λ (reactions : List Reaction). length reactions) is ∙ length-numbered (reaction_made told) 0 (schemes_of told)) below
+-- a number in the list is that of a reaction that is said
+pub number_said : (list : List Reaction) (said : List ReactionSaid) (number : ℕ) → list ≡ reactions_of said → number < length list → number < length (schemes_of said)
+number_said list said number is below =
+    subst (λ (n : ℕ). number < n) (ap (λ (reactions : List Reaction). length reactions) is ∙ length-numbered (reaction_made said) 0 (schemes_of said)) below

@@ -16,7 +16,7 @@ use Rattle.smol_reactions.specs.Content.{no_offset, usual_threshold}
 abbrev pub fresh_product : ℕ → Product
 fresh_product species = record { species = species; offset = no_offset }
 
--- a reaction before any line but its own tells of it
+-- a reaction before any line but its own says of it
 abbrev pub fresh_reaction : Scheme → Reaction
 fresh_reaction scheme = record {
   name = scheme.name;

@@ -16,53 +16,53 @@ use Rattle.smol_reactions.specs.declared.product_placement.ProductPlacement.{Pro
 use Rattle.smol_reactions.specs.declared.product_placement.ProductPlacement.TheVariants as placement
 use Rattle.smol_reactions.specs.Numbered.{numbered, nearest}
 use Rattle.smol_reactions.specs.ReactionProbability.{threshold_of}
-use Rattle.smol_reactions.specs.Told.{Told, reacts, binds, happens, places}
+use Rattle.smol_reactions.specs.ReactionSaid.{ReactionSaid, reacts, binds, happens, places}
 
--- the reactions that these tell, in the order of their lines
-abbrev pub schemes_of : List Told → List Scheme
+-- the reactions that these say, in the order of their lines
+abbrev pub schemes_of : List ReactionSaid → List Scheme
 schemes_of [] = []
 schemes_of (reacts scheme ∷ before) = schemes_of before ++ scheme ∷ []
 schemes_of (binds number radius ∷ before) = schemes_of before
 schemes_of (happens number chance ∷ before) = schemes_of before
 schemes_of (places number placement ∷ before) = schemes_of before
 
--- what is told of a reaction, where it is the one of this number
+-- what is said of a reaction, where it is the one of this number
 abbrev pub of_reaction : {T : Type 0} → ℕ → ℕ → Option T → Option T
-of_reaction number told matter = if nat_eq told number then matter else None
+of_reaction number said matter = if nat_eq said number then matter else None
 
-abbrev pub radius_told : ℕ → Told → Option Micro
-radius_told number (binds told radius) = of_reaction number told (Some radius)
-radius_told number other = None
+abbrev pub radius_said : ℕ → ReactionSaid → Option Micro
+radius_said number (binds said radius) = of_reaction number said (Some radius)
+radius_said number other = None
 
-abbrev pub chance_told : ℕ → Told → Option ℕ
-chance_told number (happens told chance) = of_reaction number told (Some chance)
-chance_told number other = None
+abbrev pub chance_said : ℕ → ReactionSaid → Option ℕ
+chance_said number (happens said chance) = of_reaction number said (Some chance)
+chance_said number other = None
 
 -- the offset of a product, where it is the one of this number
 abbrev pub offset_by : ℕ → ProductPlacement → Option Step3
 offset_by product (placement.Offset moved offset) = if nat_eq moved product then Some offset else None
 offset_by product (placement.Unbind distance) = None
 
-abbrev pub offset_told : ℕ → ℕ → Told → Option Step3
-offset_told number product (places told placement) = of_reaction number told (offset_by product placement)
-offset_told number product other = None
+abbrev pub offset_said : ℕ → ℕ → ReactionSaid → Option Step3
+offset_said number product (places said placement) = of_reaction number said (offset_by product placement)
+offset_said number product other = None
 
 -- products that are unbound, at this distance
 abbrev pub unbinding : ProductPlacement → Option Placement
 unbinding (placement.Offset product offset) = None
 unbinding (placement.Unbind distance) = Some (Unbind distance)
 
-abbrev pub unbinding_told : ℕ → Told → Option Placement
-unbinding_told number (places told placement) = of_reaction number told (unbinding placement)
-unbinding_told number other = None
+abbrev pub unbinding_said : ℕ → ReactionSaid → Option Placement
+unbinding_said number (places said placement) = of_reaction number said (unbinding placement)
+unbinding_said number other = None
 
 abbrev pub kind_of : ProductPlacement → PlacementKind
 kind_of (placement.Offset product offset) = kind.Offset
 kind_of (placement.Unbind distance) = kind.Unbindrad
 
-abbrev pub kind_told : ℕ → Told → Option PlacementKind
-kind_told number (places told placement) = of_reaction number told (Some (kind_of placement))
-kind_told number other = None
+abbrev pub kind_said : ℕ → ReactionSaid → Option PlacementKind
+kind_said number (places said placement) = of_reaction number said (Some (kind_of placement))
+kind_said number other = None
 
 -- an offset of 0
 abbrev pub no_offset : Step3
@@ -77,33 +77,33 @@ threshold_given order None = usual_threshold order
 threshold_given order (Some chance) = threshold_of chance
 
 -- a product of a reaction, each by their numbers
-abbrev pub product_made : List Told → ℕ → ℕ → ℕ → Product
-product_made told number product species =
-    record { species = species; offset = unwrap_or (nearest (offset_told number product) told) no_offset }
+abbrev pub product_made : List ReactionSaid → ℕ → ℕ → ℕ → Product
+product_made said number product species =
+    record { species = species; offset = unwrap_or (nearest (offset_said number product) said) no_offset }
 
--- the reaction of a number, by what is told of it
-abbrev pub reaction_made : List Told → ℕ → Scheme → Reaction
-reaction_made told number scheme = record {
+-- the reaction of a number, by what is said of it
+abbrev pub reaction_made : List ReactionSaid → ℕ → Scheme → Reaction
+reaction_made said number scheme = record {
   name = scheme.name;
   order = length scheme.reactants;
   reactants = scheme.reactants;
-  products = numbered (product_made told number) 0 scheme.products;
-  radius = nearest (radius_told number) told;
-  threshold = threshold_given (length scheme.reactants) (nearest (chance_told number) told);
-  placement = unwrap_or (nearest (unbinding_told number) told) Offsets;
+  products = numbered (product_made said number) 0 scheme.products;
+  radius = nearest (radius_said number) said;
+  threshold = threshold_given (length scheme.reactants) (nearest (chance_said number) said);
+  placement = unwrap_or (nearest (unbinding_said number) said) Offsets;
 }
 
--- the reactions that these tell
-abbrev pub reactions_of : List Told → List Reaction
-reactions_of told = numbered (reaction_made told) 0 (schemes_of told)
+-- the reactions that these say
+abbrev pub reactions_of : List ReactionSaid → List Reaction
+reactions_of said = numbered (reaction_made said) 0 (schemes_of said)
 
 -- the kind of placement that each reaction was given
-abbrev pub kinds_of : List Told → List (Option PlacementKind)
-kinds_of told = numbered (λ number _. nearest (kind_told number) told) 0 (schemes_of told)
+abbrev pub kinds_of : List ReactionSaid → List (Option PlacementKind)
+kinds_of said = numbered (λ number _. nearest (kind_said number) said) 0 (schemes_of said)
 
 -- the probability that each reaction was given, in billionths
-abbrev pub chances_of : List Told → List (Option ℕ)
-chances_of told = numbered (λ number _. nearest (chance_told number) told) 0 (schemes_of told)
+abbrev pub chances_of : List ReactionSaid → List (Option ℕ)
+chances_of said = numbered (λ number _. nearest (chance_said number) said) 0 (schemes_of said)
 
 -- how likely a reaction is where the species is its one reactant, in billionths
 abbrev pub chance_alone : ℕ → Reaction → Option ℕ → ℕ

@@ -2,7 +2,7 @@ pub mod Answers
 pub mod Arrangement
 pub mod Numbered
 pub mod Reaction
-pub mod Told
+pub mod ReactionSaid
 pub mod BindingRadius
 pub mod ReactionProbability
 pub mod ProductPlacement

@@ -17,7 +17,7 @@ abbrev pub nearer : {T : Type 0} → Option T → Option T → Option T
 nearer None older = older
 nearer (Some value) older = Some value
 
--- what the nearest of these tells of the matter
+-- what the nearest of these says of the matter
 abbrev pub nearest : {X T : Type 0} → (X → Option T) → List X → Option T
 nearest matter [] = None
-nearest matter (told ∷ before) = nearer (matter told) (nearest matter before)
+nearest matter (said ∷ before) = nearer (matter said) (nearest matter before)

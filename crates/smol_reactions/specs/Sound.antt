@@ -1,4 +1,4 @@
--- What holds of what lines tell of reactions.
+-- What holds of what lines say of reactions.
 use Rattle.std.specs.Prelude.{ℕ, ◌<◌, ◌≤◌, List, length, All}
 use Rattle.smol_types.specs.Limits.{most_products}
 use Rattle.smol_reactions.specs.declared.scheme.Scheme.{Scheme}

@@ -54,14 +54,7 @@ fn stands_for_rate(word: &[u8]) -> bool
 }
 
 // Whether these words are species words joined by `+`.
-#[tactic(
-    auto,
-    using(
-        crate::proofs::Sides::sum_more,
-        crate::proofs::Sides::sum_last,
-        crate::proofs::Sides::sum_none
-    )
-)]
+#[tactic(auto, using(crate::proofs::Sides::sum_more, crate::proofs::Sides::sum_last, crate::proofs::Sides::sum_none))]
 fn is_sum(line: &StatedLine<'_>, side: Side) -> bool
     requires ordered { side.start ≤ side.end }
     requires within { side.end ≤ length (words_of line.now) }
@@ -179,8 +172,9 @@ pub fn arrangement_in(line: &StatedLine<'_>) -> Result<Arrangement, Kind>
     requires { 2 ≤ length (words_of line.now) }
     ensures rule { MatchResult result
         (λ arranged. arrangement_in (arranged_words line.now) ≡ Ok (record {
-            reactants = summands (slice_range (words_of line.now) arranged.left.start arranged.left.end);
-            products = summands (slice_range (words_of line.now) arranged.right.start arranged.right.end) }))
+          reactants = summands (slice_range (words_of line.now) arranged.left.start arranged.left.end);
+          products = summands (slice_range (words_of line.now) arranged.right.start arranged.right.end);
+        }))
         (λ kind. arrangement_in (arranged_words line.now) ≡ Err kind) }
     ensures left_ordered { IfOk result (λ arranged. arranged.left.start ≤ arranged.left.end) }
     ensures left_within { IfOk result (λ arranged. arranged.left.end ≤ length (words_of line.now)) }

@@ -3,12 +3,16 @@
 
 mod arrangement;
 mod binding_radius;
+mod law;
 mod product_placement;
 mod reaction;
 mod reaction_probability;
 mod reactions;
 mod scheme;
+#[cfg(test)]
+mod tests;
 
+pub use law::probabilities_share_the_words;
 pub use product_placement::{PlacementKind, ProductPlacement};
 pub use reactions::Reactions;
 pub use scheme::Scheme;

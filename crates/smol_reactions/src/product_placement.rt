@@ -123,7 +123,9 @@ fn product_of(count: usize, numeral: Result<u64, NumFault>) -> Result<u16, Kind>
 fn place_of_species(products: &[Product], species: u16) -> Option<usize>
     ensures { result ≡ position (λ (product : TheProduct). product.species == species) products.now }
 {
-    products.iter().position(|product| product.species == species)
+    products
+        .iter()
+        .position(|product| product.species == species)
 }
 
 // The first product of a species.

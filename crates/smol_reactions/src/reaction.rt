@@ -61,11 +61,7 @@ fn sides_in(
 }
 
 /// The reaction that a line gives, beside species and reactions of these names.
-#[tactic(
-    auto,
-    unfolding(crate::specs::Reaction::reaction_in),
-    using(crate::proofs::SchemeLemmas::given_is)
-)]
+#[tactic(auto, unfolding(crate::specs::Reaction::reaction_in), using(crate::proofs::SchemeLemmas::given_is))]
 pub fn judge(
     alloc: Global,
     species: &NameSet,

@@ -9,8 +9,8 @@ ghost use Rattle.smol_reactions.specs.Changes.{fresh_product, fresh_reaction, wi
 use crate::product_placement::{PlacementKind, ProductPlacement, kind_of};
 use crate::reaction_probability::threshold_of;
 use crate::scheme::Scheme;
-use smol_geom::Step3;
 use crate::{binding_radius, product_placement, reaction, reaction_probability};
+use smol_geom::Step3;
 use smol_line::{NameSet, Refusal};
 use smol_num::{Micro, Threshold};
 use smol_text::StatedLine;
@@ -21,7 +21,7 @@ use std::mem;
 /// How many random words there are, each of which lets a certain reaction happen.
 const CERTAIN: Threshold = Threshold(4_294_967_296);
 
-/// The reactions that the lines read so far tell, each with what they tell of it.
+/// The reactions that the lines read so far say_of, each with what they say_of of it.
 #[derive(Drop)]
 pub struct Reactions {
     pub names: NameSet,
@@ -60,7 +60,7 @@ fn usual_threshold(order: u8) -> Threshold
     if order == 1 { Threshold(0) } else { CERTAIN }
 }
 
-// The reaction that its own line gives, before any other line tells of it.
+// The reaction that its own line gives, before any other line says of it.
 fn fresh_reaction(alloc: Global, scheme: Scheme) -> Result<Reaction, AllocError>
     requires { length scheme.reactants ≤ 2 }
     ensures { IfOk result (λ reaction. reaction ≡ fresh_reaction scheme) }
@@ -124,7 +124,12 @@ fn place_products(alloc: Global, reaction: &mut Reaction, placement: ProductPlac
 
 // Places products of the reaction of this number, if there is one, so.
 #[tactic(auto, using(crate::proofs::Lists::changed_past))]
-fn set_placement(alloc: Global, list: &mut Vec<Reaction>, number: usize, placement: ProductPlacement)
+fn set_placement(
+    alloc: Global,
+    list: &mut Vec<Reaction>,
+    number: usize,
+    placement: ProductPlacement,
+)
     ensures { list.new.items ≡ changed (with_placement placement) number list.old.items }
 {
     if number < list.len() {
@@ -190,7 +195,7 @@ impl Reactions {
     ghost use Rattle.std.specs.Prelude.{false, ◌++◌, ◌∷◌, OnOk};
     ghost use Rattle.smol_line.specs.Names.{is_named};
     ghost use Rattle.smol_types.specs.Limits.{most_species};
-    ghost use Rattle.smol_reactions.specs.Statements.{binding_radius_told, product_placement_told, reaction_probability_told, reaction_told};
+    ghost use Rattle.smol_reactions.specs.Statements.{binding_radius_said, product_placement_said, reaction_probability_said, reaction_said};
     ghost use Rattle.smol_reactions.specs.Table.{Holds, IsKept, Reads};
 
     /// No reactions.
@@ -233,7 +238,7 @@ impl Reactions {
         requires species { length species.now ≤ most_species }
         requires kept { IsKept self.old }
         ensures kept { OnOk result (IsKept self.new) }
-        ensures reads { Reads (λ told. reaction_told species.now told line.now) self.old self.new result }
+        ensures reads { Reads (λ said. reaction_said species.now said line.now) self.old self.new result }
     {
         let scheme = reaction::judge(alloc, species, &self.names, line)?;
         self.add(alloc, scheme)?;
@@ -244,7 +249,7 @@ impl Reactions {
     pub fn read_binding_radius(&mut self, line: &StatedLine<'_>) -> Result<(), Refusal>
         requires kept { IsKept self.old }
         ensures kept { OnOk result (IsKept self.new) }
-        ensures reads { Reads (λ told. binding_radius_told told line.now) self.old self.new result }
+        ensures reads { Reads (λ said. binding_radius_said said line.now) self.old self.new result }
     {
         let (number, radius) = binding_radius::judge(&self.names, self.list.as_slice(), line)?;
         set_radius(&mut self.list, usize::from(number), radius);
@@ -255,10 +260,13 @@ impl Reactions {
     pub fn read_reaction_probability(&mut self, line: &StatedLine<'_>) -> Result<(), Refusal>
         requires kept { IsKept self.old }
         ensures kept { OnOk result (IsKept self.new) }
-        ensures reads { Reads (λ told. reaction_probability_told told line.now) self.old self.new result }
+        ensures reads { Reads (λ said. reaction_probability_said said line.now) self.old self.new result }
     {
-        let (number, chance) =
-            reaction_probability::judge(&self.names, self.list.as_slice(), line)?;
+        let (number, chance) = reaction_probability::judge(
+            &self.names,
+            self.list.as_slice(),
+            line,
+        )?;
         set_chance(&mut self.list, usize::from(number), chance);
         keep_chance(&mut self.chances, usize::from(number), chance);
         Ok(())
@@ -275,7 +283,7 @@ impl Reactions {
         requires species { length species.now ≤ most_species }
         requires kept { IsKept self.old }
         ensures kept { OnOk result (IsKept self.new) }
-        ensures reads { Reads (λ told. product_placement_told dims species.now told line.now) self.old self.new result }
+        ensures reads { Reads (λ said. product_placement_said dims species.now said line.now) self.old self.new result }
     {
         let (number, placement) = product_placement::judge(
             dims,

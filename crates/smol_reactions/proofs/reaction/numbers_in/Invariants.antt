@@ -10,7 +10,7 @@ abbrev pub invariant-loop-at : goal.invariant-loop-at
 invariant-loop-at l = record {
   within : l.at ≤ l.side.end;
   rest : numbers_in l.species (summands (slice_range (words_of l.line) l.side.start l.side.end))
-    ≡ numbers_behind l.numbers (numbers_in l.species (summands (slice_range (words_of l.line) l.at l.side.end)));
+      ≡ numbers_behind l.numbers (numbers_in l.species (summands (slice_range (words_of l.line) l.at l.side.end)));
 }
 
 abbrev pub decreases-loop-at : goal.decreases-loop-at
