@@ -12,3 +12,5 @@ pub mod SitLemmas
 pub mod HandLemmas
 pub mod NextLinkLemmas
 pub mod FreeLemmas
+pub mod CloseLemmas
+pub mod AllLemmas

@@ -6,6 +6,7 @@
 #![tactic(auto)]
 
 mod claims;
+mod close;
 mod code;
 mod fresh;
 mod open;
