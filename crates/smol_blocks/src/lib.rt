@@ -5,6 +5,7 @@ mod action;
 mod faces;
 mod jump;
 mod panel;
+mod panel_name;
 
 pub use action::Acting;
 pub use faces::Faces;
