@@ -135,16 +135,20 @@ record Reached (a d z : ℤ) (k den : ℕ) : Type 0 where
   pub part : n * den ≡ k * unsigned_abs d
 
 -- a part of all that is less than all
-less_than_all : (n k den size : ℕ) → 0 < n → k < den → n * den ≡ k * size → n < size
-less_than_all n k den size some less part =
+less_of_some : (n k den size : ℕ) → 0 < size → k < den → n * den ≡ k * size → n < size
+less_of_some n k den size some less part =
     ⊎_elim (λ (fine : n < size). fine) (λ (wrong : size ≤ n). absurd (no wrong)) (cases_lt n size)
   where
     no : size ≤ n → ⊥
     no wrong =
         let a = mul-le-mul_right den wrong in
         let b : (k + 1) * size ≤ den * size = mul-le-mul_right size (omega (arith, less)) in
-        let c : 1 * den ≤ n * den = mul-le-mul_right den (omega (arith, some)) in
-        omega (arith, a, b, c, part, less)
+        omega (arith, a, b, part, some)
+
+less_than_all : (n k den size : ℕ) → 0 < n → k < den → n * den ≡ k * size → n < size
+less_than_all n k den zero some less part =
+    let c : 1 * den ≤ n * den = mul-le-mul_right den (omega (arith, some)) in absurd (omega (arith, c, part, less))
+less_than_all n k den (suc size) some less part = less_of_some n k den (suc size) (omega arith) less part
 
 module _ (a d z half num : ℤ) (k den : ℕ) (odd : unsigned_abs a % 2 ≡ 1) (even : z ≡ half +ℤ half) (num_is : num ≡ pos k) (some : 0 < k) (less : k < den)
     (scaled : a *ℤ pos den +ℤ num *ℤ d ≡ z *ℤ pos den) where
