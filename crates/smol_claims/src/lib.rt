@@ -9,6 +9,7 @@ mod claims;
 mod close;
 mod code;
 mod fresh;
+mod matching;
 mod open;
 mod plays;
 mod rule;
@@ -20,6 +21,7 @@ mod work;
 mod worker;
 
 pub use claims::Claims;
+pub use matching::match_pairs;
 pub use rule::Claiming;
 pub use setup::Setup;
 pub use view::{Link, Look, View};
