@@ -9,6 +9,7 @@ mod claims;
 mod close;
 mod code;
 mod fresh;
+mod law;
 mod matching;
 mod open;
 mod plays;
@@ -21,6 +22,7 @@ mod work;
 mod worker;
 
 pub use claims::Claims;
+pub use law::each_step_is_an_event;
 pub use matching::match_pairs;
 pub use rule::Claiming;
 pub use setup::Setup;
