@@ -17,6 +17,8 @@ mod rule;
 mod settle;
 mod setup;
 mod steps;
+#[cfg(test)]
+mod tests;
 mod view;
 mod work;
 mod worker;
