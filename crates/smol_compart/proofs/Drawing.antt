@@ -1,13 +1,16 @@
 -- Coordinates that are drawn between the walls of an axis.
-use Rattle.std.proofs.Common.{◌≡◌, ℕ, zero, suc, ◌+◌, ◌*◌, ◌≤◌, ◌<◌, refl, sym, ap, subst, ◌∙◌, arith, List, [], ◌∷◌, length, get_or, Option, Some, None, ℤ, pos}
-use Rattle.std.specs.Prelude.{slice_get}
-use Rattle.std.proofs.lemmas.Option.{slice_get_past, slice_get_read}
+use Rattle.std.proofs.Common.{◌≡◌, ℕ, zero, suc, ◌+◌, ◌*◌, ◌≤◌, ◌<◌, refl, sym, ap, subst, ◌∙◌, arith, List, [], ◌∷◌, length, get_or, Bool, true, false, Option, Some, None, ℤ, pos}
+use Rattle.std.specs.Prelude.{slice_get, if◌then◌else◌}
+use Rattle.std.proofs.lemmas.Option.{slice_get_past, slice_get-get_or}
+use Rattle.smol_geom.specs.declared.place.Place.{Place}
+use Rattle.smol_types.specs.declared.draft.Draft.{Draft}
 use Rattle.smol_types.specs.declared.placing.Given.{Given}
 use Rattle.smol_types.specs.declared.placing.Given.TheVariants.{Any, At}
 use Rattle.smol_types.specs.declared.wall.Wall.{Wall}
 use Rattle.smol_types.specs.Walls.{AreWalls, IsAxis}
 use Rattle.smol_meaning.specs.Chance.{coordinate_drawn}
-use Rattle.smol_meaning.specs.Placement.{coordinates_at, coordinate_unused}
+use Rattle.smol_meaning.specs.Placement.{anywhere, coordinates_at, coordinate_unused, first_inside, place_at_try}
+use Rattle.smol_meaning.specs.Inside.{is_inside}
 use Rattle.smol_compart.specs.Coordinate.{coordinate_between, coordinate_on}
 
 -- the walls of an axis are a lower and an upper one
@@ -30,20 +33,21 @@ axis_walls (l ∷ u ∷ walls) number (suc k) lower upper are low high =
     (subst (λ (i : ℕ). slice_get (l ∷ u ∷ walls) i ≡ Some lower) further low)
     (subst (λ (i : ℕ). slice_get (l ∷ u ∷ walls) i ≡ Some upper) further_one high))
 
-pub walls_at : (walls : List Wall) (axis : ℕ) (lower upper : Wall) → AreWalls 0 walls → 2 * axis + 1 < length walls
-    → lower ≡ get_or walls (2 * axis) lower → upper ≡ get_or walls (2 * axis + 1) upper → IsAxis axis lower upper
-walls_at walls axis lower upper are within low high =
-    axis_walls walls 0 axis lower upper are
-    (slice_get_read walls (length walls) (2 * axis) lower refl (omega arith) low)
-    (slice_get_read walls (length walls) (2 * axis + 1) upper refl within high)
+pub walls_at : (walls : List Wall) (axis : ℕ) (d : Wall) → AreWalls 0 walls → 2 * axis + 1 < length walls
+    → IsAxis axis (get_or walls (2 * axis) d) (get_or walls (2 * axis + 1) d)
+walls_at walls axis d are within =
+    let from_none : 0 + axis ≡ axis = omega arith in
+    subst (λ (n : ℕ). IsAxis n (get_or walls (2 * axis) d) (get_or walls (2 * axis + 1) d)) from_none
+    (axis_walls walls 0 axis (get_or walls (2 * axis) d) (get_or walls (2 * axis + 1) d) are
+    (slice_get-get_or walls (2 * axis) d (omega arith)) (slice_get-get_or walls (2 * axis + 1) d within))
 
 -- between them a coordinate is drawn
-pub drawn_there : (walls : List Wall) (seed serial try axis : ℕ) (lower upper : Wall) → 2 * axis + 1 < length walls
-    → lower ≡ get_or walls (2 * axis) lower → upper ≡ get_or walls (2 * axis + 1) upper
-    → coordinate_on walls seed serial try axis Any ≡ coordinate_drawn seed serial try axis lower.plane upper.plane
-drawn_there walls seed serial try axis lower upper within low high =
-    let lower_is = slice_get_read walls (length walls) (2 * axis) lower refl (omega arith) low in
-    let upper_is = slice_get_read walls (length walls) (2 * axis + 1) upper refl within high in
+pub drawn_there : (walls : List Wall) (seed serial try axis : ℕ) (d : Wall) → 2 * axis + 1 < length walls
+    → coordinate_on walls seed serial try axis Any
+    ≡ coordinate_drawn seed serial try axis (get_or walls (2 * axis) d).plane (get_or walls (2 * axis + 1) d).plane
+drawn_there walls seed serial try axis d within =
+    let lower_is = slice_get-get_or walls (2 * axis) d (omega arith) in
+    let upper_is = slice_get-get_or walls (2 * axis + 1) d within in
     λ i. coordinate_between seed serial try axis (lower_is i) (upper_is i) Any
 
 between_none : (seed serial try axis : ℕ) (lower : Option Wall) (given : Given)
@@ -76,3 +80,42 @@ three_coordinates (a ∷ b ∷ c ∷ []) seed serial try x y z = refl
 three_coordinates (a ∷ b ∷ c ∷ d ∷ []) seed serial try x y z = refl
 three_coordinates (a ∷ b ∷ c ∷ d ∷ e ∷ []) seed serial try x y z = refl
 three_coordinates (a ∷ b ∷ c ∷ d ∷ e ∷ f ∷ walls) seed serial try x y z = refl
+
+-- the first place inside a compartment: there is none without a try, and else it is that of this try or of a later one
+pub first_inside-none : (draft : Draft) (seed serial compartment try : ℕ) → first_inside draft seed serial compartment try 0 ≡ None
+unfolding first_inside
+first_inside-none draft seed serial compartment try = refl
+
+pub first_inside-here : (draft : Draft) (seed serial compartment try left : ℕ)
+    → is_inside draft compartment (place_at_try draft seed serial try anywhere) ≡ true
+    → first_inside draft seed serial compartment try (suc left) ≡ Some (place_at_try draft seed serial try anywhere)
+unfolding first_inside
+first_inside-here draft seed serial compartment try left here =
+    ap (λ (b : Bool). if b then Some (place_at_try draft seed serial try anywhere) else first_inside draft seed serial compartment (try + 1) left) here
+
+pub first_inside-later : (draft : Draft) (seed serial compartment try left : ℕ)
+    → is_inside draft compartment (place_at_try draft seed serial try anywhere) ≡ false
+    → first_inside draft seed serial compartment try (suc left) ≡ first_inside draft seed serial compartment (try + 1) left
+unfolding first_inside
+first_inside-later draft seed serial compartment try left not_here =
+    ap (λ (b : Bool). if b then Some (place_at_try draft seed serial try anywhere) else first_inside draft seed serial compartment (try + 1) left) not_here
+
+three_given : (given : List Given) (d : Given) → length given ≡ 3 → given ≡ get_or given 0 d ∷ get_or given 1 d ∷ get_or given 2 d ∷ []
+three_given [] d three = absurd (omega arith)
+three_given (x ∷ []) d three = absurd (omega arith)
+three_given (x ∷ y ∷ []) d three = absurd (omega arith)
+three_given (x ∷ y ∷ z ∷ []) d three = refl
+three_given (x ∷ y ∷ z ∷ w ∷ given) d three = absurd (omega arith)
+
+-- the place that has these coordinates
+pub place_is : (draft : Draft) (walls : List Wall) (seed serial try : ℕ) (given : List Given) (d : Given) (x y z : ℤ)
+    → walls ≡ draft.walls → length given ≡ 3
+    → x ≡ coordinate_on walls seed serial try 0 (get_or given 0 d) → y ≡ coordinate_on walls seed serial try 1 (get_or given 1 d)
+    → z ≡ coordinate_on walls seed serial try 2 (get_or given 2 d)
+    → ◌≡◌ {A = Place} (record { 0 = x ∷ y ∷ z ∷ [] }) (place_at_try draft seed serial try given)
+place_is draft walls seed serial try given d x y z same three is_x is_y is_z =
+    let coordinates : x ∷ y ∷ z ∷ [] ≡ coordinates_at seed serial try 0 draft.walls given =
+    (λ i. is_x i ∷ is_y i ∷ is_z i ∷ [])
+    ∙ sym (three_coordinates walls seed serial try (get_or given 0 d) (get_or given 1 d) (get_or given 2 d))
+    ∙ (λ i. coordinates_at seed serial try 0 (same i) (sym (three_given given d three) i)) in
+    λ i. record { 0 = coordinates i }

@@ -1,5 +1,6 @@
 //! Places that are drawn for molecules.
 ghost use Rattle.std.specs.Prelude.{◌≡◌, ◌^◌, ◌<◌, length};
+ghost use Rattle.smol_types.specs.Sound.{IsSound};
 ghost use Rattle.smol_types.specs.Walls.{AreWalls, IsAxis};
 ghost use Rattle.smol_meaning.specs.Chance.{coordinate_drawn};
 ghost use Rattle.smol_meaning.specs.Placement.{first_inside, most_tries, place_at_try};
@@ -37,7 +38,7 @@ pub fn first_inside(
     ensures seed { streams.new ≡ streams.old }
 {
     for attempt in 0..MOST_TRIES {
-        let place = place_at_try(config, streams, serial, attempt, &ANYWHERE);
+        let place = place_at_try(config, streams, serial, attempt, ANYWHERE);
         if inside(config, compartment, &place) {
             return Some(place);
         }
@@ -51,10 +52,12 @@ pub fn place_at_try(
     streams: &mut Streams,
     serial: u64,
     attempt: u32,
-    given: &[Given; 3],
+    given: [Given; 3],
 ) -> Place
-    requires { serial < 2 ^ 62 }
-    ensures place { result ≡ place_at_try config.now streams.old serial attempt given.now }
+    requires serial { serial < 2 ^ 62 }
+    requires given { length given ≡ 3 }
+    ensures place { result ≡ place_at_try config.now streams.old serial attempt given }
+    ensures sound { IsSound config.now }
     ensures seed { streams.new ≡ streams.old }
 {
     let walls = config.walls();

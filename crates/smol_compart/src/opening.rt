@@ -85,7 +85,7 @@ fn place_one(
         Placing::Mol { species, at, .. } => Ok(Mol {
             serial,
             species,
-            place: place_at_try(config, streams, serial, 0, &at),
+            place: place_at_try(config, streams, serial, 0, at),
         }),
         Placing::InCompartment {
             line,

@@ -149,6 +149,7 @@ chosen false place other rest e = inr e
 -- a place inside a compartment is that of some try
 found_at_try : (draft : Draft) (seed serial compartment try left : ℕ) (place : Place)
     → first_inside draft seed serial compartment try left ≡ Some place → (at : ℕ) × (place ≡ place_at_try draft seed serial at anywhere)
+unfolding first_inside
 found_at_try draft seed serial compartment try zero place e = absurd (cc)
 found_at_try draft seed serial compartment try (suc left) place e =
     ⊎_elim
