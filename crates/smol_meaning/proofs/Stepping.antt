@@ -248,3 +248,15 @@ moves_are draft seed state sound fits more =
       goes = birth_moves draft (reach_of_motion state.step) (get_or births i d) (births_are draft sound seed state fits more i d within)
           (births_start draft sound seed state fits more i d within) (motion_near draft sound seed state fits more);
     }))
+
+-- each product of molecules that stand where they may goes a way that is defined
+pub births_move : (draft : Draft) → IsSound draft → (seed k most next : ℕ) (mols : List Mol) → All (IsPlaced draft most) mols → most ≤ 2 ^ 57
+    → All (λ (birth : Birth). IsMoveOf draft (birth_move birth)) (births_in_step draft seed k mols next)
+births_move draft sound seed k most next mols placed near =
+    let births = births_in_step draft seed k mols next in
+    let are = births_of_are draft sound next (events_of draft seed k mols) (events_are draft seed k sound mols) in
+    let start = births_of_start draft most next (events_of draft seed k mols) (events_stand draft seed k most mols placed) in
+    λ i d within. record {
+      species = (are i d within).species;
+      goes = birth_moves draft most (get_or births i d) (are i d within) (start i d within) near;
+    }

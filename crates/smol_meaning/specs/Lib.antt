@@ -20,3 +20,4 @@ pub mod Run
 pub mod Births
 pub mod Placed
 pub mod Folds
+pub mod Meeting
