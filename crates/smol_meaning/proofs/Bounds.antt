@@ -60,7 +60,7 @@ pub flat_sheet : (sheet : Sheet) → IsSheet sheet → IsFlat sheet
 flat_sheet (Rectangle rect) is = is.shape
 flat_sheet (Plane axis plane) is = tt
 
-plane_small : (sheet : Sheet) → IsSheet sheet → (unsigned_abs (sheet_plane sheet) ≤ farthest) × (unsigned_abs (sheet_plane sheet) % 2 ≡ 0)
+pub plane_small : (sheet : Sheet) → IsSheet sheet → (unsigned_abs (sheet_plane sheet) ≤ farthest) × (unsigned_abs (sheet_plane sheet) % 2 ≡ 0)
 plane_small (Rectangle rect) is = (at_axis (λ j. unsigned_abs (on_axis rect.low j) ≤ farthest) rect.axis is.shape.axis is.low, is.even)
 plane_small (Plane axis plane) is = (is.size, is.even)
 
@@ -99,11 +99,13 @@ module _ (dims : ℕ) (from : Place) (by : Step3) (move : IsMove dims from by) w
   fits_from : (f : Fold) → length f.sign ≡ 3 → length f.shift ≡ 3 → ((j : ℕ) → j < 3 → Fits f j) → FoldFits dims from by f
   fits_from f signs shifts on =
       record {
-        fold = each (λ j. IsSign (on_axis f.sign j)) (λ j l. (on j l).sign);
-        signs = signs;
-        shifts = shifts;
-        even = each (λ j. unsigned_abs (on_axis f.shift j) % 2 ≡ 0) (λ j l. (on j l).even);
-        size = each (λ j. unsigned_abs (on_axis f.shift j) ≤ 2 ^ 58) (λ j l. (on j l).size);
+        small = record {
+          fold = each (λ j. IsSign (on_axis f.sign j)) (λ j l. (on j l).sign);
+          signs = signs;
+          shifts = shifts;
+          even = each (λ j. unsigned_abs (on_axis f.shift j) % 2 ≡ 0) (λ j l. (on j l).even);
+          size = each (λ j. unsigned_abs (on_axis f.shift j) ≤ 2 ^ 58) (λ j l. (on j l).size);
+        };
         end = each (λ j. unsigned_abs (end_on from by f j) ≤ max (unsigned_abs (on_axis from.0 j)) farthest + unsigned_abs (on_axis by.0 j)) (λ j l. (on j l).end);
         unused = each (λ j. dims ≤ j → end_on from by f j ≡ on_axis from.0 j) (λ j l. (on j l).unused);
       }
@@ -111,9 +113,9 @@ module _ (dims : ℕ) (from : Place) (by : Step3) (move : IsMove dims from by) w
   fits_on : (f : Fold) → FoldFits dims from by f → (j : ℕ) → j < 3 → Fits f j
   fits_on f fits j l =
       record {
-        sign = at_axis (λ k. IsSign (on_axis f.sign k)) j l fits.fold;
-        even = at_axis (λ k. unsigned_abs (on_axis f.shift k) % 2 ≡ 0) j l fits.even;
-        size = at_axis (λ k. unsigned_abs (on_axis f.shift k) ≤ 2 ^ 58) j l fits.size;
+        sign = at_axis (λ k. IsSign (on_axis f.sign k)) j l fits.small.fold;
+        even = at_axis (λ k. unsigned_abs (on_axis f.shift k) % 2 ≡ 0) j l fits.small.even;
+        size = at_axis (λ k. unsigned_abs (on_axis f.shift k) ≤ 2 ^ 58) j l fits.small.size;
         end = at_axis (λ k. unsigned_abs (end_on from by f k) ≤ max (unsigned_abs (on_axis from.0 k)) farthest + unsigned_abs (on_axis by.0 k)) j l fits.end;
         unused = at_axis (λ k. dims ≤ k → end_on from by f k ≡ on_axis from.0 k) j l fits.unused;
       }
@@ -125,7 +127,7 @@ module _ (dims : ℕ) (from : Place) (by : Step3) (move : IsMove dims from by) w
   way_small j l = at_axis (λ k. unsigned_abs (on_axis by.0 k) ≤ 2 ^ 34) j l move.step_size
 
   -- a moment's axis is in use
-  used : (m : Moment) → IsMoment from by m → dims ≤ m.axis → ⊥
+  pub used : (m : Moment) → IsMoment from by m → dims ≤ m.axis → ⊥
   used m is beyond =
       let still : on_axis by.0 m.axis ≡ pos 0 = at_axis (λ k. dims ≤ k → on_axis by.0 k ≡ pos 0) m.axis is.axis move.unused beyond in
       let none : ticks by m.axis ≡ 0 = ap unsigned_abs still in
@@ -184,10 +186,10 @@ module _ (dims : ℕ) (from : Place) (by : Step3) (move : IsMove dims from by) w
 
     module _ (f : Fold) (fits : FoldFits dims from by f) where
       sign_on : (j : ℕ) → j < 3 → IsSign (on_axis f.sign j)
-      sign_on j l = at_axis (λ k. IsSign (on_axis f.sign k)) j l fits.fold
+      sign_on j l = at_axis (λ k. IsSign (on_axis f.sign k)) j l fits.small.fold
 
       even_on : (j : ℕ) → j < 3 → unsigned_abs (on_axis f.shift j) % 2 ≡ 0
-      even_on j l = at_axis (λ k. unsigned_abs (on_axis f.shift k) % 2 ≡ 0) j l fits.even
+      even_on j l = at_axis (λ k. unsigned_abs (on_axis f.shift k) % 2 ≡ 0) j l fits.small.even
 
       -- a jump from a sheet that is met keeps the bounds on each axis
       module _ (shift : List ℤ) where
@@ -250,7 +252,7 @@ module _ (dims : ℕ) (from : Place) (by : Step3) (move : IsMove dims from by) w
         outcome Reflect plate p_fit met fit =
             let at = met_plane from by f m (sign_on m.axis is.axis) is plate.sheet (flat_sheet plate.sheet p_fit.sheet) met in
             let small = plane_small plate.sheet p_fit.sheet in
-            mirrored_fits f (plane_at from by f m) fits.signs fits.shifts (sign_on m.axis is.axis) (even_on m.axis is.axis) (λ j l other. fits_on f fits j l)
+            mirrored_fits f (plane_at from by f m) fits.small.signs fits.small.shifts (sign_on m.axis is.axis) (even_on m.axis is.axis) (λ j l other. fits_on f fits j l)
             (subst (λ z. unsigned_abs z ≤ farthest) (sym at.1) small.0) (subst (λ z. unsigned_abs z % 2 ≡ 0) (sym at.1) small.1) refl
         outcome (Jump shift up) plate p_fit met fit =
             let at = met_plane from by f m (sign_on m.axis is.axis) is plate.sheet (flat_sheet plate.sheet p_fit.sheet) met in
@@ -259,8 +261,8 @@ module _ (dims : ℕ) (from : Place) (by : Step3) (move : IsMove dims from by) w
             let small = plane_small plate.sheet p_fit.sheet in
             let even = at_axis (λ k. unsigned_abs (on_axis shift k) % 2 ≡ 0) m.axis is.axis fit.even in
             cond_both (are_same (goes_up by f m.axis) up) (shifted f shift) (mirrored (shifted f shift) m.axis (plane_at from by f m +ℤ on_axis shift m.axis)) (FoldFits dims from by)
-            (λ e. fits_from (shifted f shift) fits.signs refl there)
-            (λ e. mirrored_fits (shifted f shift) (plane_at from by f m +ℤ on_axis shift m.axis) fits.signs refl (sign_on m.axis is.axis) (there m.axis is.axis).even
+            (λ e. fits_from (shifted f shift) fits.small.signs refl there)
+            (λ e. mirrored_fits (shifted f shift) (plane_at from by f m +ℤ on_axis shift m.axis) fits.small.signs refl (sign_on m.axis is.axis) (there m.axis is.axis).even
             (λ j l other. there j l)
             (subst (λ z. unsigned_abs z ≤ farthest) (λ i. sym at.1 i +ℤ on_axis shift (sym at.0 i)) (landing plate.sheet shift p_fit.sheet fit.lands))
             (sum_even (plane_at from by f m) (on_axis shift m.axis) (subst (λ z. unsigned_abs z % 2 ≡ 0) (sym at.1) small.1) even)

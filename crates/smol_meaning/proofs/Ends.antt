@@ -35,11 +35,13 @@ straight_still a d still = omega (arith, ints, still)
 pub straight_fits : (dims : ℕ) (from : Place) (by : Step3) → IsMove dims from by → FoldFits dims from by straight
 straight_fits dims from by move =
     record {
-      fold = (inl refl, inl refl, inl refl);
-      signs = refl;
-      shifts = refl;
-      even = (refl, refl, refl);
-      size = (omega arith, omega arith, omega arith);
+      small = record {
+        fold = (inl refl, inl refl, inl refl);
+        signs = refl;
+        shifts = refl;
+        even = (refl, refl, refl);
+        size = (omega arith, omega arith, omega arith);
+      };
       end = (
         straight_size (on_axis from.0 0) (on_axis by.0 0),
         straight_size (on_axis from.0 1) (on_axis by.0 1),
@@ -68,9 +70,9 @@ end_fits dims from by (Goes f) move fits =
     record {
       count = refl;
       odd = (
-        odd_end (on_axis f.sign 0) (on_axis from.0 0) (on_axis by.0 0) (on_axis f.shift 0) fits.fold.0 move.place_odd.0 move.step_even.0 fits.even.0,
-        odd_end (on_axis f.sign 1) (on_axis from.0 1) (on_axis by.0 1) (on_axis f.shift 1) fits.fold.1 move.place_odd.1 move.step_even.1 fits.even.1,
-        odd_end (on_axis f.sign 2) (on_axis from.0 2) (on_axis by.0 2) (on_axis f.shift 2) fits.fold.2 move.place_odd.2 move.step_even.2 fits.even.2,
+        odd_end (on_axis f.sign 0) (on_axis from.0 0) (on_axis by.0 0) (on_axis f.shift 0) fits.small.fold.0 move.place_odd.0 move.step_even.0 fits.small.even.0,
+        odd_end (on_axis f.sign 1) (on_axis from.0 1) (on_axis by.0 1) (on_axis f.shift 1) fits.small.fold.1 move.place_odd.1 move.step_even.1 fits.small.even.1,
+        odd_end (on_axis f.sign 2) (on_axis from.0 2) (on_axis by.0 2) (on_axis f.shift 2) fits.small.fold.2 move.place_odd.2 move.step_even.2 fits.small.even.2,
       );
       size = fits.end;
       unused = fits.unused;
@@ -106,18 +108,27 @@ grow : (dims size most : ℕ) (x y z x' y' z' : ℤ) (by : Step3) → dims ≤ 3
     → AreCoordinates size dims (x ∷ y ∷ z ∷ []) → AreCoordinates (size + most) dims (x' ∷ y' ∷ z' ∷ [])
 grow zero size most x y z x' y' z' by few far step end are = (end.unused.0 (omega arith) ∙ are.0, (end.unused.1 (omega arith) ∙ are.1.0, (end.unused.2 (omega arith) ∙ are.1.1.0, tt)))
 grow (suc zero) size most x y z x' y' z' by few far step end are = (
-  end.odd.0, coordinate_grows x x' (on_axis by.0 0) size most end.size.0 are.1 far step.0,
+  end.odd.0,
+  coordinate_grows x x' (on_axis by.0 0) size most end.size.0 are.1 far step.0,
   (end.unused.1 (omega arith) ∙ are.2.0, (end.unused.2 (omega arith) ∙ are.2.1.0, tt)),
 )
 grow (suc (suc zero)) size most x y z x' y' z' by few far step end are = (
-  end.odd.0, coordinate_grows x x' (on_axis by.0 0) size most end.size.0 are.1 far step.0,
-  (end.odd.1, coordinate_grows y y' (on_axis by.0 1) size most end.size.1 are.2.1 far step.1,
-    (end.unused.2 (omega arith) ∙ are.2.2.0, tt)),
+  end.odd.0,
+  coordinate_grows x x' (on_axis by.0 0) size most end.size.0 are.1 far step.0,
+  (
+    end.odd.1,
+    coordinate_grows y y' (on_axis by.0 1) size most end.size.1 are.2.1 far step.1,
+    (end.unused.2 (omega arith) ∙ are.2.2.0, tt),
+  ),
 )
 grow (suc (suc (suc zero))) size most x y z x' y' z' by few far step end are = (
-  end.odd.0, coordinate_grows x x' (on_axis by.0 0) size most end.size.0 are.1 far step.0,
-  (end.odd.1, coordinate_grows y y' (on_axis by.0 1) size most end.size.1 are.2.1 far step.1,
-    (end.odd.2, coordinate_grows z z' (on_axis by.0 2) size most end.size.2 are.2.2.1 far step.2, tt)),
+  end.odd.0,
+  coordinate_grows x x' (on_axis by.0 0) size most end.size.0 are.1 far step.0,
+  (
+    end.odd.1,
+    coordinate_grows y y' (on_axis by.0 1) size most end.size.1 are.2.1 far step.1,
+    (end.odd.2, coordinate_grows z z' (on_axis by.0 2) size most end.size.2 are.2.2.1 far step.2, tt),
+  ),
 )
 grow (suc (suc (suc (suc dims)))) size most x y z x' y' z' by few far step end are = absurd (omega arith)
 

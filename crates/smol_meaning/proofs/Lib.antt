@@ -7,8 +7,12 @@ pub mod Nearness
 pub mod Bounds
 pub mod Seeing
 pub mod Ends
+pub mod Confined
 pub mod Kept
 pub mod Diffusing
 pub mod Meeting
 pub mod Reacting
 pub mod Stepping
+pub mod Opening
+pub mod Places
+pub mod Sights

@@ -23,7 +23,7 @@ use Rattle.smol_types.specs.Sound.{IsSound}
 use Rattle.smol_types.specs.Walls.{AreWalls}
 use Rattle.smol_meaning.specs.declared.way.Response.{Response}
 use Rattle.smol_meaning.specs.declared.way.Response.TheVariants.{Reflect, Absorb, Jump, Pass}
-use Rattle.smol_meaning.specs.Folds.{IsPlate, IsResponse, IsJump}
+use Rattle.smol_meaning.specs.Folds.{IsPlate, IsResponse, IsJump, IsPanelRect, IsWallPlane}
 use Rattle.smol_meaning.specs.Plates.{Plate, Sheet, Rectangle, Plane}
 use Rattle.smol_meaning.specs.Seen.{arrival_face, response_by, corner_gap, jump_between, panel_jump, panel_response, panel_plate, opposite_of, wall_jump, wall_response, wall_plate, plates_of}
 
@@ -36,7 +36,7 @@ all_got P xs i all = go (slice_get_cases xs i).1
     go (inr h) = rw h.1 tt
 
 -- and of the one that is found
-all_found : {X : Type 0} → (P : X → Type 0) (test : X → Bool) (xs : List X) → All P xs → IfSome (find test xs) P
+pub all_found : {X : Type 0} → (P : X → Type 0) (test : X → Bool) (xs : List X) → All P xs → IfSome (find test xs) P
 all_found P test [] all = tt
 all_found P test (x ∷ xs) all =
     cond_both (test x) (Some x) (find test xs) (λ o. IfSome o P) (λ e. all 0 x (omega arith)) (λ e. all_found P test xs (λ k d l. all (suc k) d (omega arith)))
@@ -145,15 +145,23 @@ wall_jump_fits dims wall up (Some other) few this there =
     wall_jump_on dims wall.axis wall.plane other.plane (omega (arith, this.across, few)) this.across this.even there.even there.size
 
 module _ (draft : Draft) (species : ℕ) (sound : IsSound draft) where
+  pub rect_fits : (panel : Panel) → IsPanel draft.dims (length draft.surfaces) draft.panels panel → IsPanelRect panel.rect
+  rect_fits panel is =
+      record {
+        shape = is.rect;
+        low = is.low_size;
+        high = is.high_size;
+        even = at_axis (λ j. IsEven (on_axis panel.rect.low j)) panel.rect.axis is.rect.axis is.low_even;
+      }
+
+  -- the rectangles of all panels are within the bounds
+  pub rects_fit : All IsPanelRect (map (λ (panel : Panel). panel.rect) draft.panels)
+  rects_fit = All-map IsPanelRect (λ (panel : Panel). panel.rect) draft.panels (λ k d l. rect_fits _ (sound.panels k d l))
+
   panel_fits : (entry : ℕ × Panel) → IsPanel draft.dims (length draft.surfaces) draft.panels entry.1 → IsPlate draft.dims (panel_plate draft species entry)
   panel_fits entry is =
       record {
-        sheet = record {
-          shape = is.rect;
-          low = is.low_size;
-          high = is.high_size;
-          even = at_axis (λ j. IsEven (on_axis entry.1.rect.low j)) entry.1.rect.axis is.rect.axis is.low_even;
-        };
+        sheet = rect_fits entry.1 is;
         below = on (arrival_face entry.1.greater true);
         above = on (arrival_face entry.1.greater false);
       }
@@ -167,10 +175,17 @@ module _ (draft : Draft) (species : ℕ) (sound : IsSound draft) where
   walls_are : All (IsWallOf draft.dims) draft.walls
   walls_are = all_walls draft.dims 0 draft.dims draft.walls sound.walls sound.wall_count (omega arith)
 
+  wall_plane_fits : (wall : Wall) → IsWallOf draft.dims wall → IsWallPlane wall.axis wall.plane
+  wall_plane_fits wall is = record { across = omega (arith, is.across, sound.dims_below); size = is.size; even = is.even }
+
+  -- and so are the planes of all walls
+  pub wall_planes_fit : All (λ (wall : Wall). IsWallPlane wall.axis wall.plane) draft.walls
+  wall_planes_fit = λ k d l. wall_plane_fits _ (walls_are k d l)
+
   wall_fits : (entry : ℕ × Wall) → IsWallOf draft.dims entry.1 → IsPlate draft.dims (wall_plate draft species entry)
   wall_fits entry is =
       record {
-        sheet = record { across = omega (arith, is.across, sound.dims_below); size = is.size; even = is.even };
+        sheet = wall_plane_fits entry.1 is;
         below = on true;
         above = on false;
       }

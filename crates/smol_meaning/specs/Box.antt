@@ -16,7 +16,7 @@ use Rattle.smol_meaning.specs.declared.way.Standing.TheVariants.{Goes, Gone}
 use Rattle.smol_meaning.specs.declared.way.Travelled.{Travelled}
 use Rattle.smol_meaning.specs.declared.way.Travelled.TheVariants.{At, Absorbed}
 use Rattle.smol_meaning.specs.Plates.{Sheet, Rectangle, Plane, Plate, IsOn, response_of, sheet_axis, sheet_plane}
-use Rattle.smol_meaning.specs.Way.{after_moment, straight}
+use Rattle.smol_meaning.specs.Way.{after_moment, straight, way_among}
 
 -- the place is inside the box: strictly between its faces. A place is odd and a face even, so no place is on a face
 abbrev pub IsInside : Cuboid → Place → Type 0
@@ -71,3 +71,8 @@ StaysInRegion plates box from by (Goes f) (m ∷ ms) =
 abbrev pub EndsInside : Cuboid → Travelled → Type 0
 EndsInside box (At place) = IsInside box place
 EndsInside box (Absorbed number) = Unit {0}
+
+-- the box confines the way of a move among the plates
+pub record Confines (plates : List Plate) (from : Place) (by : Step3) (box : Cuboid) : Type 0 where
+  pub region : StaysInRegion plates box from by (Goes straight) (moments from by)
+  pub end : EndsInside box (way_among plates from by)

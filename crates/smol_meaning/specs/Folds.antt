@@ -57,14 +57,18 @@ pub record IsPlate (dims : ℕ) (plate : Plate) : Type 0 where
   pub below : IsResponse dims plate.sheet plate.from_below
   pub above : IsResponse dims plate.sheet plate.from_above
 
--- a fold with three signs and three even shifts. No shift is larger than a way to the farthest plane makes it, and the end that
--- the fold leads to is no farther out than the start or the farthest plane and the displacement
-pub record FoldFits (dims : ℕ) (from : Place) (by : Step3) (f : Fold) : Type 0 where
+-- a fold with three signs and three even shifts that aren't large
+pub record IsSmallFold (f : Fold) : Type 0 where
   pub fold : IsFold f
   pub signs : length f.sign ≡ 3
   pub shifts : length f.shift ≡ 3
   pub even : EachAxis (λ axis. IsEven (on_axis f.shift axis))
   pub size : IsWithin (2 ^ 58) f.shift
+
+-- a fold that a way reaches: the end that it leads to is no farther out than the start or the farthest plane and the
+-- displacement, and on an axis that isn't in use it is where the start is
+pub record FoldFits (dims : ℕ) (from : Place) (by : Step3) (f : Fold) : Type 0 where
+  pub small : IsSmallFold f
   pub end : EachAxis (λ axis. unsigned_abs (end_on from by f axis) ≤ max (unsigned_abs (on_axis from.0 axis)) farthest + unsigned_abs (on_axis by.0 axis))
   pub unused : EachAxis (λ axis. dims ≤ axis → end_on from by f axis ≡ on_axis from.0 axis)
 

@@ -6,6 +6,7 @@ pub mod Seen
 pub mod Moves
 pub mod Chance
 pub mod Sight
+pub mod Sighted
 pub mod Inside
 pub mod Placement
 pub mod Motion
