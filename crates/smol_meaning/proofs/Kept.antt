@@ -99,9 +99,9 @@ Ascend-same least next i j mols d ascend in_i in_j same =
     ⊎_elim
     (λ (less : i < j). absurd (omega (arith, same, Ascend-below least next i j mols d ascend less in_j)))
     (λ (rest : j ≤ i). ⊎_elim
-      (λ (less : j < i). absurd (omega (arith, same, Ascend-below least next j i mols d ascend less in_i)))
-      (λ (not_less : i ≤ j). let e : i ≡ j = omega arith in e)
-      (cases_lt j i))
+    (λ (less : j < i). absurd (omega (arith, same, Ascend-below least next j i mols d ascend less in_i)))
+    (λ (not_less : i ≤ j). let e : i ≡ j = omega arith in e)
+    (cases_lt j i))
     (cases_lt i j)
 
 -- a serial is that of one molecule alone

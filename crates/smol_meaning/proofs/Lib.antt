@@ -16,3 +16,4 @@ pub mod Stepping
 pub mod Opening
 pub mod Places
 pub mod Sights
+pub mod Going

@@ -1,5 +1,6 @@
 pub mod Plates
 pub mod Way
+pub mod Ways
 pub mod Crossing
 pub mod Box
 pub mod Seen
