@@ -25,3 +25,19 @@ module _ {X : Type 0} where
   pub sum_by-empty : (f : X → ℕ) (xs : List X) → length xs ≡ 0 → sum_by f xs ≡ 0
   sum_by-empty f [] e = refl
   sum_by-empty f (x ∷ xs) e = absurd (omega arith)
+
+  pub sum_by-each : (f : X → ℕ) (xs ys : List X) → length ys ≡ length xs → ((i : ℕ) (d : X) → i < length xs → f (get_or ys i d) ≡ f (get_or xs i d)) → sum_by f ys ≡ sum_by f xs
+  sum_by-each f [] [] e same = refl
+  sum_by-each f [] (y ∷ ys) e same = absurd (omega arith)
+  sum_by-each f (x ∷ xs) [] e same = absurd (omega arith)
+  sum_by-each f (x ∷ xs) (y ∷ ys) e same =
+      let first : f y ≡ f x = same 0 x (omega arith) in
+      let rest : sum_by f ys ≡ sum_by f xs = sum_by-each f xs ys (omega arith) (λ i d l. same (suc i) d (omega arith)) in
+      omega (arith, sum_by-cons f x xs, sum_by-cons f y ys, first, rest)
+
+  pub sum_by-of_ones : (f : X → ℕ) (xs : List X) → All (λ x. f x ≡ 1) xs → sum_by f xs ≡ length xs
+  sum_by-of_ones f [] one = refl
+  sum_by-of_ones f (x ∷ xs) one =
+      let first : f x ≡ 1 = one 0 x (omega arith) in
+      let rest : sum_by f xs ≡ length xs = sum_by-of_ones f xs (λ i d l. one (suc i) d (omega arith)) in
+      omega (arith, sum_by-cons f x xs, first, rest)

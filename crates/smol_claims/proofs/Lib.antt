@@ -14,3 +14,4 @@ pub mod NextLinkLemmas
 pub mod FreeLemmas
 pub mod CloseLemmas
 pub mod AllLemmas
+pub mod EventLemmas

@@ -1,6 +1,7 @@
 -- A worker as contracts see it, and the pairs that it has in hand.
 use Rattle.std.specs.Prelude.{ℕ, ◌≡◌, ◌+◌, ◌<◌, ◌≤◌, true, List, [], length}
 use Rattle.atomic_table.specs.Seated.{TableId}
+use Rattle.smol_plan.specs.Machine.{slice_count}
 use Rattle.smol_claims.specs.declared.view.View.{View}
 use Rattle.smol_claims.specs.View.{has, times, newcomer}
 use Rattle.smol_claims.specs.Plays.{Known}
@@ -21,6 +22,12 @@ pub record WorksFor (hand : Hand) (task : Task) : Type 0 where
 pub record IsNewFor (task : Task) (hand : Hand) : Type 0 where
   pub table : hand.table ≡ task.table
   pub view : hand.view ≡ newcomer task.pairs task.workers 1
+
+-- the worker has run for this matching: it has seen every slice taken, and has the share that it had
+pub record HasRun (task : Task) (old new : Hand) : Type 0 where
+  pub works : WorksFor new task
+  pub seen : new.view.seen ≡ slice_count task.pairs
+  pub share : new.view.share ≡ old.view.share
 
 -- a seat of this matching that is not spent
 pub record SitsAt (table : TableId) (known : Known) (task : Task) : Type 0 where

@@ -40,7 +40,7 @@ module _ (from : Place) (by : Step3) (odd : (j : ℕ) → j < 3 → unsigned_abs
     pub made : (j : ℕ) → j < 3 → 2 * c j ≤ ticks by j
 
   -- a moment is at an odd tick
-  odd_num : (m : Moment) → IsMoment from by m → m.num % 2 ≡ 1
+  pub odd_num : (m : Moment) → IsMoment from by m → m.num % 2 ≡ 1
   odd_num m h = go (cases_Bool (int_lt (pos 0) (on_axis by.0 m.axis)))
     where
       go : (int_lt (pos 0) (on_axis by.0 m.axis) ≡ true) ⊎ (int_lt (pos 0) (on_axis by.0 m.axis) ≡ false) → m.num % 2 ≡ 1

@@ -17,7 +17,7 @@ use Rattle.smol_geom.specs.Moment.{part_of}
 use Rattle.smol_geom.specs.Moments.{Has, IsMoment, ticks, moment_of, moments}
 use Rattle.smol_geom.specs.Part.{scaled_way}
 use Rattle.smol_geom.specs.Rect.{HoldsPoint, IsInRange, IsRect}
-use Rattle.smol_geom.proofs.Cells.{centre, ahead, IsCell, IsDouble, direction, in_cell, cell_through, centre_turned, signed_size, plane_folded, mirrored_start, mirrored_way, end_centre}
+use Rattle.smol_geom.proofs.Cells.{centre, ahead, IsCell, IsDouble, even_double, odd_half, direction, in_cell, cell_through, centre_turned, signed_size, plane_folded, mirrored_start, mirrored_way, end_centre}
 use Rattle.smol_geom.proofs.Counts.{Left, more, all_left, rest_left, at_odd, head_num, not_ahead, not_behind, m_is}
 use Rattle.smol_geom.proofs.EachAxis.{at_axis}
 use Rattle.smol_geom.proofs.Integers.{sums, mul_le_ℤ}
@@ -39,15 +39,6 @@ use Rattle.smol_meaning.proofs.Bounds.{used, flat_sheet, plane_small}
 use Rattle.smol_meaning.proofs.Planes.{IsFlat, start_on, way_on, point_is, plane_met, between_plane}
 use Rattle.smol_meaning.proofs.Responses.{reflect_decides, deciding_put, on_is, holds_from}
 use Rattle.smol_meaning.proofs.Seeing.{plates_fit}
-
--- an even number is twice another, and an odd one is one more
-even_double : (z : ℤ) → unsigned_abs z % 2 ≡ 0 → IsDouble z
-even_double (pos n) even = (pos (n / 2), omega (arith, ints, even))
-even_double (negsuc n) even = (neg_ℤ (pos ((n + 1) / 2)), omega (arith, ints, even))
-
-odd_half : (z : ℤ) → unsigned_abs z % 2 ≡ 1 → (half : ℤ) × (z ≡ half +ℤ half +ℤ pos 1)
-odd_half (pos n) odd = (pos (n / 2), omega (arith, ints, odd))
-odd_half (negsuc n) odd = (neg_ℤ (pos ((n + 2) / 2)), omega (arith, ints, odd))
 
 -- after the counted ticks the molecule is in a cell within the box, on each axis
 pub record Inside (box : Cuboid) (from : Place) (by : Step3) (f : Fold) (c : ℕ → ℕ) : Type 0 where

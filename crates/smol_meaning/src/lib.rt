@@ -2,9 +2,11 @@
 #![tactic(auto)]
 
 mod event;
+mod law;
 mod sight;
 mod way;
 
 pub use event::{Birth, Fired};
+pub use law::{no_way_crosses, ways_are_confined, ways_end_near};
 pub use sight::{a_line_meets_a_panel, a_line_meets_a_wall, meets_panel, meets_wall};
 pub use way::{Response, Standing, Travelled};

@@ -11,3 +11,6 @@ mod walk;
 pub use panels::Panels;
 pub use smol_meaning::Travelled;
 pub use walk::travel;
+
+#[cfg(test)]
+mod tests;

@@ -1,0 +1,4 @@
+pub mod Faces
+pub mod Action
+pub mod Panel
+pub mod Jump
