@@ -17,3 +17,4 @@ pub mod Opening
 pub mod Places
 pub mod Sights
 pub mod Performing
+pub mod Going

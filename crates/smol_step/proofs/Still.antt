@@ -1,8 +1,7 @@
 -- A molecule whose species has the difstep 0 goes nowhere.
-use Rattle.std.proofs.Common.{◌≡◌, ℕ, ◌<◌, [], ◌∷◌, length, get_or, Option, slice_get, pos, refl, ap}
+use Rattle.std.proofs.Common.{◌≡◌, ℕ, ◌<◌, [], ◌∷◌, length, get_or, Option, pos, refl, ap}
 use Rattle.std.specs.Option.{option_map_or}
 use Rattle.std.proofs.lemmas.Option.{slice_get_read}
-use Rattle.smol_geom.specs.declared.place.Step3.{Step3}
 use Rattle.smol_streams.proofs.Sizes.{displacement_on_still}
 use Rattle.smol_streams.specs.Displacement.{displacement}
 use Rattle.smol_types.specs.declared.draft.Draft.{Draft}

@@ -6,9 +6,7 @@ ghost use Rattle.smol_meaning.specs.Placed.{IsPlaced};
 
 use smol_geom::Step3;
 use smol_streams::Streams;
-use crate::going::travel;
-use crate::panels::Panels;
-use smol_meaning::Travelled;
+use smol_travel::{Panels, Travelled, travel};
 use smol_types::{Config, Mol};
 
 // How far a molecule goes in step k, where nothing is in its way. One that doesn't move draws nothing.
@@ -26,13 +24,7 @@ fn displacement(config: &Config, streams: &mut Streams, k: u32, m: &Mol) -> Step
 }
 
 // A molecule after its motion in step k, where it wasn't absorbed.
-fn diffused(
-    config: &Config,
-    panels: &Panels,
-    streams: &mut Streams,
-    k: u32,
-    m: &Mol,
-) -> Option<Mol>
+fn diffused(config: &Config, panels: &Panels, streams: &mut Streams, k: u32, m: &Mol) -> Option<Mol>
     requires panels { panels.now ≡ config.now }
     requires placed { IsPlaced config.now (2 ^ 57) m.now }
     ensures diffused { result ≡ diffused config.now streams.old k m.now }

@@ -6,9 +6,7 @@ ghost use Rattle.smol_meaning.specs.Events.{birth_move, born};
 ghost use Rattle.smol_meaning.specs.Placed.{IsMoveOf};
 
 use smol_births::Birth;
-use crate::going::travel;
-use crate::panels::Panels;
-use smol_meaning::Travelled;
+use smol_travel::{Panels, Travelled, travel};
 use smol_types::Mol;
 use std::alloc::AllocError;
 

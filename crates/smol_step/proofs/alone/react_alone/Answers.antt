@@ -1,6 +1,6 @@
-use Rattle.std.proofs.Common.{◌≡◌, ◌+◌, ◌++◌, ◌∷◌, [], ℕ, Bool, true, false, not, refl, List, Option, Some, None, length, get_or, map, take, ap, sym, ◌∙◌}
+use Rattle.std.proofs.Common.{◌≡◌, ◌++◌, ◌∷◌, [], ℕ, Bool, true, false, not, refl, List, Option, Some, None, get_or, map, take, ap, sym, ◌∙◌}
 use Rattle.std.specs.Prelude.{is_none, is_some}
-use Rattle.std.specs.List.{cons_option, filter_map}
+use Rattle.std.specs.List.{cons_option}
 use Rattle.std.specs.Option.{option_map}
 use Rattle.std.proofs.lemmas.List.{append-nil, get_or_default, map_more}
 use Rattle.smol_types.specs.declared.state.Mol.{Mol}
@@ -36,21 +36,21 @@ loop-m-preserved c =
     let drawn_first = c.first_order-reaction.ensures.seed ∙ c.loop-m.invariant.seed in
     let pushed = c.in_ok-push-2.ensures.items ∙ ap (λ (bs : List Bool). bs ++ c.is_none.result ∷ []) c.loop-m.invariant.free in
     elim c.match-reaction.branch [
-      in-Some+in_ok-push w ↦
-        let some = drawn ∙ w.in-Some.is in
-        let event = w.fired_of_one.ensures.event ∙ ap (λ (seed : ℕ). lone_event config seed k m w.in-Some.r) drawn_first in
-        rw (w.streams-is, w.events-is) (record {
-          free = pushed ∙ ap (λ (b : Bool). frees ++ b ∷ []) (none_is c.match-reaction.reaction c.is_none.result c.is_none.ensures ∙ ap is_none (w.reaction-is ∙ sym some)) ∙ sym free;
-          events = w.in_ok-push.ensures.items ∙ ap (λ (e : Fired). c.loop-m.events.items ++ e ∷ []) event
-              ∙ ap (λ (events : List Fired). events ++ lone_event config seed k m w.in-Some.r ∷ []) c.loop-m.invariant.events
-              ∙ sym (step ∙ ap (λ (one : Option ℕ). so_far ++ cons_option (option_map (lone_event config seed k m) one) []) some);
-          seed = w.fired_of_one.ensures.seed ∙ drawn_first;
-        })
+      | in-Some+in_ok-push w ↦
+          let some = drawn ∙ w.in-Some.is in
+          let event = w.fired_of_one.ensures.event ∙ ap (λ (seed : ℕ). lone_event config seed k m w.in-Some.r) drawn_first in
+          rw (w.streams-is, w.events-is) (record {
+            free = pushed ∙ ap (λ (b : Bool). frees ++ b ∷ []) (none_is c.match-reaction.reaction c.is_none.result c.is_none.ensures ∙ ap is_none (w.reaction-is ∙ sym some)) ∙ sym free;
+            events = w.in_ok-push.ensures.items ∙ ap (λ (e : Fired). c.loop-m.events.items ++ e ∷ []) event
+                ∙ ap (λ (events : List Fired). events ++ lone_event config seed k m w.in-Some.r ∷ []) c.loop-m.invariant.events
+                ∙ sym (step ∙ ap (λ (one : Option ℕ). so_far ++ cons_option (option_map (lone_event config seed k m) one) []) some);
+            seed = w.fired_of_one.ensures.seed ∙ drawn_first;
+          })
       | in_default w ↦
-        let none = drawn ∙ w.in_default.is in
-        rw (w.streams-is, w.events-is) (record {
-          free = pushed ∙ ap (λ (b : Bool). frees ++ b ∷ []) (none_is c.match-reaction.reaction c.is_none.result c.is_none.ensures ∙ ap is_none (w.reaction-is ∙ sym drawn)) ∙ sym free;
-          events = c.loop-m.invariant.events ∙ sym (step ∙ ap (λ (one : Option ℕ). so_far ++ cons_option (option_map (lone_event config seed k m) one) []) none ∙ append-nil so_far);
-          seed = drawn_first;
-        })
+          let none = drawn ∙ w.in_default.is in
+          rw (w.streams-is, w.events-is) (record {
+            free = pushed ∙ ap (λ (b : Bool). frees ++ b ∷ []) (none_is c.match-reaction.reaction c.is_none.result c.is_none.ensures ∙ ap is_none (w.reaction-is ∙ sym drawn)) ∙ sym free;
+            events = c.loop-m.invariant.events ∙ sym (step ∙ ap (λ (one : Option ℕ). so_far ++ cons_option (option_map (lone_event config seed k m) one) []) none ∙ append-nil so_far);
+            seed = drawn_first;
+          })
     ]

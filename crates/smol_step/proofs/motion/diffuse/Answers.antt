@@ -1,6 +1,5 @@
-use Rattle.std.proofs.Common.{◌≡◌, ◌<◌, ◌+◌, ◌^◌, ℕ, Some, None, length, get_or, take, set, [], ap, sym, ◌∙◌, subst, arith}
+use Rattle.std.proofs.Common.{◌<◌, ◌^◌, ℕ, length, take, ap, sym, ◌∙◌, subst, arith}
 use Rattle.std.specs.List.{filter_map}
-use Rattle.smol_types.specs.declared.state.Mol.{Mol}
 use Rattle.smol_meaning.specs.Motion.{diffused}
 use Rattle.smol_meaning.specs.Placed.{IsPlaced}
 use Rattle.smol_step.proofs.InPlace.{in_place_next, made_gone, made_stays}
@@ -30,7 +29,7 @@ loop-i-preserved c =
     let becomes = ap (λ (seed : ℕ). diffused c.args.config.now seed c.args.k m) (sym c.loop-i.invariant.seed) ∙ sym c.diffused.ensures.diffused in
     let seed = c.diffused.ensures.seed ∙ c.loop-i.invariant.seed in
     elim c.match-diffused.branch [
-      in-Some w ↦ rw (w.mols-is, w.left-is) (record {
+      | in-Some w ↦ rw (w.mols-is, w.left-is) (record {
         moved = made_stays made now old left here m w.in-Some.after within is (becomes ∙ w.in-Some.is) so_far;
         seed = seed;
       })

@@ -1,4 +1,4 @@
-use Rattle.std.proofs.Common.{◌≡◌, ◌<◌, ℕ, length, take, arith, ◌∙◌}
+use Rattle.std.proofs.Common.{◌<◌, length, take, arith, ◌∙◌}
 use Rattle.std.specs.List.{items_where_true}
 use Rattle.smol_step.proofs.InPlace.{in_place_next, picked_gone, picked_stays}
 use Rattle.smol_step.proofs.removal.keep_free.Goals as goal
@@ -15,9 +15,9 @@ loop-i-preserved c =
     let within : here < length old = omega arith in
     let front = items_where_true (take here free) (take here old) in
     elim c.if-is_free.branch [
-      then-is_free w ↦
-        let m = w.index.result.now in
-        let is = w.index.ensures ∙ in_place_next front now old left here m so_far in
-        rw (w.mols-is, w.left-is) (picked_stays free now old left here m c.loop-i-test.true within is w.if-is_free.true so_far)
+      | then-is_free w ↦
+          let m = w.index.result.now in
+          let is = w.index.ensures ∙ in_place_next front now old left here m so_far in
+          rw (w.mols-is, w.left-is) (picked_stays free now old left here m c.loop-i-test.true within is w.if-is_free.true so_far)
       | else-is_free w ↦ rw (w.mols-is, w.left-is) (picked_gone free now old left here c.loop-i-test.true within w.if-is_free.false so_far)
     ]
