@@ -18,3 +18,4 @@ pub mod Places
 pub mod Sights
 pub mod Performing
 pub mod Going
+pub mod Courses
