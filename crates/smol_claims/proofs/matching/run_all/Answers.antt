@@ -1,4 +1,4 @@
-use Rattle.std.proofs.Common.{rules, ◌≡◌, ◌<◌, length, get_or, sym, ◌∙◌, ap}
+use Rattle.std.proofs.Common.{rules, sym, ◌∙◌, ap}
 use Rattle.smol_claims.specs.Hand.{Hand, HasRun}
 use Rattle.smol_claims.proofs.AllLemmas.{sum_by-each}
 use Rattle.smol_claims.proofs.matching.run_all.Goals as goal
