@@ -1,17 +1,14 @@
 -- Where one seat has the whole share, holds and owes nothing and has seen every slice taken, the words say what serial
 -- matching decides of every pair.
-use Rattle.std.proofs.Common.{◌≡◌, ℕ, zero, suc, ◌+◌, ◌<◌, ◌≤◌, Bool, true, false, List, [], ◌∷◌, length, get_or, set, sum_by, Option, Some, ◌⊎◌, refl, sym, ◌∙◌, ap, subst, inl, inr, ⊎_elim, arith}
-use Rattle.std.specs.Option.{is_some}
-use Rattle.std.proofs.lemmas.List.{get_or_past}
+use Rattle.std.proofs.Common.{◌≡◌, ℕ, zero, suc, ◌<◌, ◌≤◌, false, List, [], ◌∷◌, length, get_or, set, sum_by, Some, refl, sym, ◌∙◌, ap, subst, ⊎_elim, arith}
 use Rattle.std.proofs.lemmas.List.Sums.{sum_by-set, sum_by-cons}
 use Rattle.std.proofs.lemmas.Bool.{cases_eq, cases_lt}
 use mathlib.Core.Option as maybe
 use lib.ListN.{get_elem?}
 use Rattle.atomic_table.proofs.Lists.{set_else}
 use Rattle.smol_plan.specs.declared.pair.Pair.{Pair}
-use Rattle.smol_plan.specs.declared.pair.Side.{Side}
-use Rattle.smol_plan.specs.Machine.{slice_count, is_decided}
-use Rattle.smol_plan.specs.Law.{IsFinished, AllDecided}
+use Rattle.smol_plan.specs.Machine.{slice_count}
+use Rattle.smol_plan.specs.Law.{IsFinished}
 use Rattle.smol_plan.proofs.ProgressLemmas.{AllDecided-from_finished}
 use Rattle.smol_claims.specs.declared.view.View.{View}
 use Rattle.smol_claims.specs.View.{has, has_link, spent, view_at}
@@ -48,11 +45,11 @@ module _ (pairs : List Pair) (workers : ℕ) (s : WordsAndViews) (r : KeepsRule 
   empty_at P here nothing other k = ⊎_elim
       (λ (e : k ≡ id). subst P (sym (ap (view_at s.views) e ∙ seat_view s.views id v spent at)) here)
       (λ (n : k ≡ id → ⊥). ⊎_elim
-        (λ (l : k < length s.views).
-          let there = some_at s.views k spent l in
-          other (view_at s.views k) ((r.views k (view_at s.views k) there).spent (others_spent k (view_at s.views k) n there)))
-        (λ (l : length s.views ≤ k). subst P (sym (view_at-past s.views k l)) nothing)
-        (cases_lt k (length s.views)))
+      (λ (l : k < length s.views).
+      let there = some_at s.views k spent l in
+      other (view_at s.views k) ((r.views k (view_at s.views k) there).spent (others_spent k (view_at s.views k) n there)))
+      (λ (l : length s.views ≤ k). subst P (sym (view_at-past s.views k l)) nothing)
+      (cases_lt k (length s.views)))
       (cases_eq k id)
 
   finished : IsFinished pairs (spelled pairs s.words s.views)

@@ -1,6 +1,6 @@
 -- Each step of a seat is an event of the machine, or none.
-use Rattle.std.proofs.Common.{◌≡◌, ℕ, ◌<◌, true, false, ◌==◌, get_or, refl, sym, ◌∙◌, ap, ⊎_elim, MatchBool, arith}
-use Rattle.std.proofs.lemmas.Bool.{cases_eq, eq-eqb, ne_eqb}
+use Rattle.std.proofs.Common.{◌≡◌, get_or, refl, ◌∙◌, ap, ⊎_elim, arith}
+use Rattle.std.proofs.lemmas.Bool.{eq-eqb, ne_eqb}
 use Rattle.atomic_table.proofs.Lists.{set_else}
 use Rattle.smol_claims.specs.View.{has, has_link}
 use Rattle.smol_claims.specs.Layout.{slice_at}

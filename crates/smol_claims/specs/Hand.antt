@@ -23,11 +23,11 @@ pub record IsNewFor (task : Task) (hand : Hand) : Type 0 where
   pub table : hand.table ≡ task.table
   pub view : hand.view ≡ newcomer task.pairs task.workers 1
 
--- the worker has run for this matching: it has seen every slice taken, and has the share that it had
-pub record HasRun (task : Task) (old new : Hand) : Type 0 where
-  pub works : WorksFor new task
-  pub seen : new.view.seen ≡ slice_count task.pairs
-  pub share : new.view.share ≡ old.view.share
+-- the worker has run for this matching: it has seen every slice taken, and has this share
+pub record HasRun (task : Task) (share : ℕ) (worker : Hand) : Type 0 where
+  pub works : WorksFor worker task
+  pub seen : worker.view.seen ≡ slice_count task.pairs
+  pub share_is : worker.view.share ≡ share
 
 -- a seat of this matching that is not spent
 pub record SitsAt (table : TableId) (known : Known) (task : Task) : Type 0 where

@@ -72,10 +72,7 @@ impl Claims {
         let Some(first) = workers.pop() else {
             unreachable!();
         };
-        let Worker {
-            mut seat,
-            stack: _,
-        } = first;
+        let Worker { mut seat, stack: _ } = first;
         while let Some(worker) = workers.pop() {
             self.join(&mut seat, worker);
         }
@@ -89,7 +86,10 @@ impl Claims {
         ensures sits { SitsAt seat.new.table_id seat.new.me self.now }
         ensures view { seat.new.me.0 ≡ view_joining seat.old.me.0 worker.view }
     {
-        let Worker { seat: other, stack: _ } = worker;
+        let Worker {
+            seat: other,
+            stack: _,
+        } = worker;
         self.table.shared.join_seat::<Joining>(seat, other);
     }
 }

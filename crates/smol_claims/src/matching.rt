@@ -44,7 +44,7 @@ fn run_all<R: Threads + Sync, G: Gate>(rt: &R, claims: &Claims, workers: &mut [W
     let threads = workers.len();
     let run = |_, worker: &mut Worker|
         requires { WorksFor worker.now claims.now }
-        ensures { HasRun claims.entry.now worker.entry.now worker.exit.now }
+        ensures { HasRun claims.entry.now worker.entry.now.view.share worker.exit.now }
     { worker.run(claims, gate) };
     for_each_mut(rt, workers, threads, &run);
 }

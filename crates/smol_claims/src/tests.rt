@@ -10,8 +10,10 @@ use smol_plan::{Pair, Plan};
 use std::alloc::{AllocError, Global};
 use std::marker::Sync;
 use std::process::Abort;
+use std::sync::Wait;
 use std::test::Fail;
-use std::thread::Threads;
+use std::thread;
+use std::thread::{Promise, Threads};
 
 // Three pairs, each of which has a molecule of the one before it.
 fn three_pairs(alloc: Global) -> Result<Vec<Pair>, AllocError>
@@ -52,7 +54,7 @@ fn open_three<R: Threads + Sync>(
 fn run_and_look(claims: &Claims, worker: &mut Worker, pair: usize) -> (Option<bool>, Option<bool>)
     requires works { WorksFor worker.old claims.now }
     requires pair { pair < length claims.now.pairs }
-    ensures { HasRun claims.now worker.old worker.new }
+    ensures { HasRun claims.now worker.old.view.share worker.new }
 {
     let before = worker.look(claims, pair);
     worker.run(claims, &Open);
@@ -107,6 +109,65 @@ fn two_workers_run_one_after_the_other(rt: HostRuntime) -> Result<(), Fail> {
         unreachable!();
     };
     let fired = one_after_the_other(&rt, rt.alloc(), claims, first, second)?;
+    assert_eq!(rt; fired.as_slice(), [true, false, true].as_slice());
+    Ok(())
+}
+
+// A thread promises that it has run its worker, which has one part of the share.
+#[derive(Clone, Copy)]
+struct RunsFor<'a>(&'a Claims);
+
+impl<'a> Promise<Worker> for RunsFor<'a> {
+    ghost kept_by = { λ promise worker. HasRun promise.0.now 1 worker };
+}
+
+fn run(claims: &Claims, mut worker: Worker) -> Worker
+    requires { IsNewFor claims.now worker }
+    ensures { HasRun claims.now 1 result }
+{
+    worker.run(claims, &Open);
+    worker
+}
+
+// Runs each of two workers in a thread of its own.
+fn run_both<R: Threads + Wait>(
+    rt: &R,
+    claims: &Claims,
+    first: Worker,
+    second: Worker,
+) -> Result<(Worker, Worker), AllocError>
+    requires first { IsNewFor claims.now first }
+    requires second { IsNewFor claims.now second }
+    ensures { IfOk result (λ both. HasRun claims.now 1 both.0 × HasRun claims.now 1 both.1) }
+{
+    thread::scope(
+        thread::scope_env(),
+        rt,
+        move |scope| -> Result<(Worker, Worker), AllocError>
+            requires { IsNewFor claims.now first × IsNewFor claims.now second }
+            ensures { IfOk result (λ both. HasRun claims.entry.now 1 both.0 × HasRun claims.entry.now 1 both.1) }
+        {
+            let one = scope.spawn_with(RunsFor(claims), move || run(claims, first))?;
+            let other = scope.spawn_with(RunsFor(claims), move || run(claims, second))?;
+            Ok((one.join(rt), other.join(rt)))
+        },
+    )
+}
+
+#[test]
+fn two_workers_run_in_threads_of_their_own(rt: HostRuntime) -> Result<(), Fail> {
+    let (claims, mut workers) = open_three(&rt, rt.alloc(), 2)?;
+    let Some(second) = workers.pop() else {
+        unreachable!();
+    };
+    let Some(first) = workers.pop() else {
+        unreachable!();
+    };
+    let (first, second) = run_both(&rt, &claims, first, second)?;
+    let mut all = Vec::new(rt.alloc());
+    all.push(first)?;
+    all.push(second)?;
+    let fired = claims.close(all);
     assert_eq!(rt; fired.as_slice(), [true, false, true].as_slice());
     Ok(())
 }

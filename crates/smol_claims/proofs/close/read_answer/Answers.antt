@@ -1,4 +1,4 @@
-use Rattle.std.proofs.Common.{◌≡◌, ℕ, ◌+◌, ◌<◌, false, length, length-set, get_or, set, get_or-set_same, get_or-set_other, Some, None, refl, sym, ◌∙◌, ap, arith, below_more}
+use Rattle.std.proofs.Common.{◌≡◌, ◌+◌, ◌<◌, false, length, length-set, get_or, get_or-set_same, get_or-set_other, Some, None, sym, ◌∙◌, ap, arith, below_more}
 use Rattle.std.specs.Mem.Slots.{slots_items}
 use Rattle.std.proofs.lemmas.List.{ext_get_or}
 use Rattle.smol_plan.specs.Matching.{fires}
@@ -17,11 +17,11 @@ loop-pair-preserved c =
     let word : get_or (slots_items c.args.closed.now.words) (1 + c.slices.result + c.len.result + c.loop-pair.pair) 0 ≡ c.word.result = seat_view (slots_items c.args.closed.now.words) (1 + c.slices.result + c.len.result + c.loop-pair.pair) c.word.result 0 c.word.ensures in
     let says : decision_in c.word.result ≡ Some (serial_decision c.args.plan.now c.loop-pair.pair) = ap decision_in (sym word ∙ ap (λ i. get_or (slots_items c.args.closed.now.words) i 0) place) ∙ c.requires.decided c.loop-pair.pair inside in
     let value : c.match-decision_in.value ≡ fires c.args.plan.now c.loop-pair.pair = elim c.match-decision_in.branch [
-      in-Some w ↦ let both : Some w.in-Some.decision ≡ Some (serial_decision c.args.plan.now c.loop-pair.pair) = w.in-Some.ensures ∙ says in
-        let same : w.in-Some.decision ≡ serial_decision c.args.plan.now c.loop-pair.pair = cc in
-        w.value-is ∙ ap (λ d. d.fired) same
-    | in-None w ↦ let wrong : None ≡ Some (serial_decision c.args.plan.now c.loop-pair.pair) = w.in-None.ensures ∙ says in
-      cc
+      | in-Some w ↦ let both : Some w.in-Some.decision ≡ Some (serial_decision c.args.plan.now c.loop-pair.pair) = w.in-Some.ensures ∙ says in
+          let same : w.in-Some.decision ≡ serial_decision c.args.plan.now c.loop-pair.pair = cc in
+          w.value-is ∙ ap (λ d. d.fired) same
+      | in-None w ↦ let wrong : None ≡ Some (serial_decision c.args.plan.now c.loop-pair.pair) = w.in-None.ensures ∙ says in
+          cc
     ] in
     record {
       as_many = length-set c.loop-pair.answer.items c.loop-pair.pair c.match-decision_in.value ∙ h.as_many;

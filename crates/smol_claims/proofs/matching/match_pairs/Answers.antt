@@ -1,4 +1,4 @@
-use Rattle.std.proofs.Common.{rules, ◌≡◌, ◌++◌, List, length, take, drop, All, sum_by, sym, ◌∙◌, ap}
+use Rattle.std.proofs.Common.{rules, ◌≡◌, ◌++◌, List, length, take, drop, sum_by, sym, ◌∙◌, ap}
 use Rattle.std.proofs.Math.Seq.{take-append_seam}
 use Rattle.smol_claims.specs.Hand.{Hand}
 use Rattle.smol_claims.proofs.AllLemmas.{sum_by-of_ones}

@@ -1,7 +1,7 @@
-use Rattle.std.proofs.Common.{◌≡◌, ℕ, ◌<◌, List, [], length, get_or, Some, sym, ◌∙◌, ap, subst}
+use Rattle.std.proofs.Common.{◌≡◌, ℕ, List, get_or, sym, ◌∙◌, ap, subst}
 use Rattle.smol_plan.specs.Machine.{slice_count}
 use Rattle.smol_claims.specs.Layout.{decision_at}
-use Rattle.smol_claims.specs.Code.{decision_in, serial_decision}
+use Rattle.smol_claims.specs.Code.{decision_in}
 use Rattle.smol_claims.specs.Rule.{KeepsRule}
 use Rattle.smol_claims.specs.declared.setup.Setup.{Setup}
 use Rattle.smol_claims.proofs.CloseLemmas.{closes}

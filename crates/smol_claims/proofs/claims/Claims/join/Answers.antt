@@ -1,4 +1,4 @@
-use Rattle.std.proofs.Common.{◌≡◌, ◌<◌, sym, ◌∙◌, ap, arith}
+use Rattle.std.proofs.Common.{sym, ◌∙◌, ap, arith}
 use Rattle.smol_claims.proofs.SplitLemmas.{joins}
 use Rattle.smol_claims.proofs.claims.Claims.join.Goals as goal
 
