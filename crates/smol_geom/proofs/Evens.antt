@@ -1,18 +1,18 @@
 -- The moments of a move from an odd place by an even displacement are all the parts of it at which a coordinate is even.
-use Rattle.std.proofs.Common.{⊎_elim, ◌≡◌, ℕ, zero, suc, ◌+◌, ◌*◌, ◌/◌, ◌%◌, ◌<◌, ◌≤◌, Bool, true, false, ◌==◌, ◌⊎◌, inl, inr, List, [], ◌∷◌, cond, refl, sym, ◌∙◌, ap, subst, arith, ℤ, pos, negsuc, neg_ℤ, ◌+ℤ◌, ◌-ℤ◌, ◌*ℤ◌, ◌≤ℤ◌, ◌<ℤ◌, int_lt, unsigned_abs}
+use Rattle.std.proofs.Common.{⊎_elim, ◌≡◌, ℕ, zero, suc, ◌+◌, ◌*◌, ◌/◌, ◌%◌, ◌<◌, ◌≤◌, Bool, true, false, ◌==◌, ◌⊎◌, inl, inr, List, [], ◌∷◌, cond, refl, sym, ◌∙◌, ap, subst, arith, ℤ, pos, negsuc, neg_ℤ, ◌+ℤ◌, ◌-ℤ◌, ◌*ℤ◌, ◌<ℤ◌, int_lt, unsigned_abs}
 use Rattle.std.specs.Prelude.{count_by, Contains}
-use Rattle.std.proofs.lemmas.Bool.{cases_Bool, cases_eq, cases_lt, cond_both, and_from, and_parts, lt-ltb, ltb-true, eq-eqb, eqb-true, ne_eqb, both_ways, false_from_ne_true}
+use Rattle.std.proofs.lemmas.Bool.{cases_Bool, cases_eq, cases_lt, cond_both, and_from, and_parts, lt-ltb, ltb-true, eq-eqb, eqb-true, ne_eqb, false_from_ne_true}
 use Rattle.std.proofs.lemmas.Int.{ints}
 use Rattle.std.proofs.lemmas.List.Sums.{sum_by-cons}
-use Rattle.std.proofs.Math.Nat.{mul-le-mul_right, mul-le-mul_left}
+use Rattle.std.proofs.Math.Nat.{mul-le-mul_right}
 use Rattle.smol_geom.specs.declared.place.Place.{Place}
 use Rattle.smol_geom.specs.declared.place.Step3.{Step3}
 use Rattle.smol_geom.specs.declared.moment.Moment.{Moment}
 use Rattle.smol_geom.specs.Axes.{EachAxis, IsOdd, IsEven, on_axis}
-use Rattle.smol_geom.specs.Fraction.{Fraction, whole, ◌≈ℚ◌, ◌≤ℚ◌}
+use Rattle.smol_geom.specs.Fraction.{Fraction, whole, ◌≈ℚ◌}
 use Rattle.smol_geom.specs.Line.{part_way}
 use Rattle.smol_geom.specs.Moment.{part_of}
-use Rattle.smol_geom.specs.Moments.{ticks, coordinate_from, coordinate_after, is_even, is_even_at, is_before, moment_of, with_moment, with_row, moments, Has, IsMoment, IsEvenAt, AreAllMoments}
+use Rattle.smol_geom.specs.Moments.{ticks, coordinate_from, coordinate_after, is_even_at, is_before, moment_of, with_moment, with_row, moments, IsMoment, IsEvenAt, AreAllMoments}
 use Rattle.smol_geom.specs.Part.{scaled_way}
 use Rattle.smol_geom.proofs.Cells.{direction, even_double, exact_at, mirrored_way}
 use Rattle.smol_geom.proofs.Counts.{odd_num, at_odd}
@@ -257,8 +257,7 @@ module _ (from : Place) (by : Step3) (odd : EachAxis (λ axis. IsOdd (on_axis fr
       let num_is = positive_num t.num t.den is.begun in
       let r = reached (on_axis from.0 axis) (on_axis by.0 axis) (is.half +ℤ is.half) is.half t.num (unsigned_abs t.num) t.den (odd_at axis l) refl num_is
       (some_num t.num t.den num_is is.begun) (less_num t.num t.den num_is is.unfinished)
-      (exact_from (is.half +ℤ is.half) (on_axis from.0 axis) (on_axis by.0 axis) t is.even) in
-      (
+      (exact_from (is.half +ℤ is.half) (on_axis from.0 axis) (on_axis by.0 axis) t is.even) in (
         moment_of by axis r.n,
         contains_had (moments from by) (moment_of by axis r.n) (all_of_move from by (moment_of by axis r.n) (record {
           axis = l;

@@ -132,7 +132,7 @@ module _ (box : Cuboid) (from : Place) (by : Step3) (odd : (j : ℕ) → j < 3 �
         let fit = all_had (IsPlate dims) plates face.plate (has_contained plates face.plate face.listed) all in
         even_double plane (subst (λ z. unsigned_abs z % 2 ≡ 0) face.at_plane (plane_small face.plate.sheet fit.sheet).1)
 
-    -- no response translates
+    -- no response moves the molecule elsewhere
     puts : StaysPut (deciding (responses_met plates from by f m))
     puts = deciding_put from by f m plates (λ p h met.
         let on = on_is p.sheet (true_point f from by (part_of m)) (and_parts (sheet_axis p.sheet == m.axis) (is_on p.sheet (true_point f from by (part_of m))) met).1 in
@@ -382,7 +382,7 @@ module _ (dims : ℕ) (plates : List Plate) (box : Cuboid) (from : Place) (by : 
       ends_inside (after_moment plates from by (Goes f) m) (more c m.axis) ms (rest_left from by odd c m ms left)
       (stays_inside box from by odd f c m ms left inside dims move plates all closed)
 
-  -- a way that starts inside has each true point at a moment in the closed region, and ends inside
+  -- a way that starts inside has each true point in the closed region, and ends inside
   starts : Left from by odd (λ _. 0) (moments from by)
   starts = all_left from by odd
 

@@ -53,7 +53,7 @@ StaysPut (Jump by up) = ⊥
 StaysPut Pass = Unit {0}
 
 -- the plates make a closed reflecting box for their species: each face on the axes in use is shut, and no plate with a point
--- of the closed region jumps
+-- in the closed region jumps
 pub record IsClosed (dims : ℕ) (plates : List Plate) (box : Cuboid) : Type 0 where
   pub lower : (axis : ℕ) → axis < dims → IsFaceShut plates box axis (on_axis box.low axis) false
   pub upper : (axis : ℕ) → axis < dims → IsFaceShut plates box axis (on_axis box.high axis) true
@@ -70,7 +70,8 @@ pub record LiesFrom (low high t : Fraction) : Type 0 where
 -- next moment it is the point of the fold so far, and from there on that of the fold after the moment
 abbrev pub StaysInRegion : List Plate → Cuboid → Place → Step3 → Fraction → Standing → List Moment → Type 0
 StaysInRegion plates box from by last (Gone number) ms = Unit {0}
-StaysInRegion plates box from by last (Goes f) [] = (t : Fraction) → LiesFrom last (whole (pos 1)) t → IsInRegion box (true_point f from by t)
+StaysInRegion plates box from by last (Goes f) [] =
+    (t : Fraction) → LiesFrom last (whole (pos 1)) t → IsInRegion box (true_point f from by t)
 StaysInRegion plates box from by last (Goes f) (m ∷ ms) =
     ((t : Fraction) → LiesFrom last (part_of m) t → IsInRegion box (true_point f from by t))
     × StaysInRegion plates box from by (part_of m) (after_moment plates from by (Goes f) m) ms

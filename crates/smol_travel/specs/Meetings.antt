@@ -18,6 +18,9 @@ use Rattle.smol_meaning.specs.Folds.{FoldFits}
 use Rattle.smol_meaning.specs.Seen.{plates_of}
 use Rattle.smol_meaning.specs.Way.{after_moments, straight}
 
+abbrev pub panel_rects : List Panel → List Rect
+panel_rects panels = map (λ (panel : Panel). panel.rect) panels
+
 abbrev pub rect_sheets : List Rect → List Sheet
 rect_sheets rects = map Rectangle rects
 
@@ -29,7 +32,7 @@ wall_sheets walls = map wall_sheet walls
 
 -- the sheets of all panels and walls
 abbrev pub sheets_of : Draft → List Sheet
-sheets_of draft = rect_sheets (map (λ (panel : Panel). panel.rect) draft.panels) ++ wall_sheets draft.walls
+sheets_of draft = rect_sheets (panel_rects draft.panels) ++ wall_sheets draft.walls
 
 -- no sheet is met at the moment
 abbrev pub NoneMet : List Sheet → Place → Step3 → Fold → Moment → Type 0
@@ -66,7 +69,8 @@ earliest_of next (Some m) = Some (earlier_of next m)
 
 -- the gap isn't 0, and leads up exactly where the way leads up
 abbrev pub IsSameWay : ℤ → ℤ → Type 0
-IsSameWay gap way = ((int_lt (pos 0) way ≡ true) × (int_lt (pos 0) gap ≡ true)) ⊎ ((int_lt (pos 0) way ≡ false) × (int_lt gap (pos 0) ≡ true))
+IsSameWay gap way =
+    ((int_lt (pos 0) way ≡ true) × (int_lt (pos 0) gap ≡ true)) ⊎ ((int_lt (pos 0) way ≡ false) × (int_lt gap (pos 0) ≡ true))
 
 -- what decides among the plates that are met and a response of plates of higher numbers
 unfoldable pub deciding_over : List Plate → Place → Step3 → Fold → Moment → Response → Response

@@ -1,11 +1,11 @@
 //! What responses make of a fold.
-ghost use Rattle.std.specs.Prelude.{◌≡◌, ◌<◌, ◌≤◌, ◌^◌, unsigned_abs, [], ◌∷◌};
+ghost use Rattle.std.specs.Prelude.{◌≡◌, ◌<◌, ◌≤◌, ◌^◌, unsigned_abs};
 ghost use Rattle.smol_geom.specs.Axes.{IsWithin};
 ghost use Rattle.smol_geom.specs.Fold.{IsFold};
 ghost use Rattle.smol_geom.specs.Moments.{IsMoment};
 ghost use Rattle.smol_meaning.specs.Folds.{IsSmallFold};
 ghost use Rattle.smol_meaning.specs.Plates.{done_by, jumped, mirrored, shifted};
-ghost use Rattle.smol_meaning.specs.Way.{end_on};
+ghost use Rattle.smol_meaning.specs.Way.{end_place};
 ghost use Rattle.smol_travel.specs.Meetings.{IsSmallJump};
 
 use crate::coordinates::{end_on, mirrored_shift, opposite, sum};
@@ -94,7 +94,7 @@ pub fn end_of(fold: &Fold, from: &Place, by: &Step3) -> Place
     requires fold { IsSmallFold fold.now }
     requires from { IsWithin (2 ^ 57) from.now.0 }
     requires by { IsWithin (2 ^ 34) by.now.0 }
-    ensures { result ≡ record { 0 = end_on from.now by.now fold.now 0 ∷ end_on from.now by.now fold.now 1 ∷ end_on from.now by.now fold.now 2 ∷ [] } }
+    ensures { result ≡ end_place from.now by.now fold.now }
 {
     Place([
         end_on(fold.sign[0], from.0[0], by.0[0], fold.shift[0]),
