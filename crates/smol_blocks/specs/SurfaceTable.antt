@@ -50,3 +50,13 @@ Reads rule line old new (Ok done) =
     (before : List SurfaceSaid) → Holds old before → (said : SurfaceSaid) × (rule before line ≡ Ok said) × Holds new (said ∷ before)
 Reads rule line old new (Err (At kind)) = (before : List SurfaceSaid) → Holds old before → rule before line ≡ Err kind
 Reads rule line old new (Err OutOfMemory) = Unit {0}
+
+-- what a block may know of the lines before it
+abbrev pub known_of : ℕ → List (List ℕ) → ℕ → Known
+known_of dims species others = record { dims = dims; species = species; others = others }
+
+-- a table has an entry for each panel and for each of so many species
+pub record IsReady (table : SurfaceTable) (species : ℕ) : Type 0 where
+  pub panels : ArePaired table.panels
+  pub front : length table.actions.front.items ≡ species
+  pub back : length table.actions.back.items ≡ species
