@@ -10,6 +10,8 @@ mod panel_name;
 mod panel_table;
 mod surface_statement;
 mod surface_table;
+#[cfg(test)]
+mod tests;
 
 pub use action::Acting;
 pub use action_table::ActionTable;

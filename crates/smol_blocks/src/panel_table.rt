@@ -1,10 +1,21 @@
 //! The panels of a surface, by the lines of its block so far.
-ghost use Rattle.std.specs.Prelude.{◌≡◌, ◌<◌, ◌++◌, ◌∷◌, [], None, Some, length, slice_set, OnOk, if◌then◌else◌};
+ghost use Rattle.std.specs.Prelude.{◌≡◌, ◌==◌, ◌&&◌, ◌<◌, ◌≤◌, ◌^◌, ◌++◌, ◌∷◌, [], ℕ, None, Some, Err, length, slice_index_or, OnOk, if◌then◌else◌};
+ghost use Rattle.std.specs.Result.{IsOkAnd};
+ghost use Rattle.smol_types.specs.declared.fault.Kind.{Kind as TheKind};
+ghost use Rattle.smol_types.specs.Limits.{most_panels};
+ghost use Rattle.smol_line.specs.declared.refusal.Refusal.TheVariants.{At};
 
+use crate::jump::{Leading, jump_in};
+use crate::panel::shape_in;
+use crate::panel_name::add_name;
 use smol_geom::Rect;
-use smol_line::NameSet;
-use smol_types::Face;
+use smol_line::{NameSet, Refusal, unless};
+use smol_text::StatedLine;
+use smol_types::{Face, Kind};
 use std::alloc::{AllocError, Global};
+
+/// How many panels there may be.
+const MOST_PANELS: usize = 4096;
 
 /// The panels of a surface: their names, their rectangles, whether their fronts are the sides of greater coordinates,
 /// and where jumps from their faces lead.
@@ -18,7 +29,10 @@ pub struct PanelTable {
 }
 
 impl PanelTable {
+    ghost use Rattle.smol_blocks.specs.Jump.{jump_in};
+    ghost use Rattle.smol_blocks.specs.Panel.{panel_in};
     ghost use Rattle.smol_blocks.specs.Surface.{same_face};
+    ghost use Rattle.smol_blocks.specs.SurfaceTable.{AddsJump, AddsPanel, ArePaired};
     ghost use Rattle.smol_types.specs.declared.surface.Face.TheVariants.{Front, Back};
 
     /// No panels, which takes no memory.
@@ -60,12 +74,72 @@ impl PanelTable {
         ensures names { self.new.names ≡ self.old.names }
         ensures rects { self.new.rects.items ≡ self.old.rects.items }
         ensures sides { self.new.sides.items ≡ self.old.sides.items }
-        ensures front_to { self.new.front_to.items ≡ (if same_face from_face Front then slice_set self.old.front_to.items from (Some (to, to_face)) else self.old.front_to.items) }
-        ensures back_to { self.new.back_to.items ≡ (if same_face from_face Back then slice_set self.old.back_to.items from (Some (to, to_face)) else self.old.back_to.items) }
+        ensures front_to { (panel : ℕ) → slice_index_or self.new.front_to.items panel None
+            ≡ (if (from == panel) && same_face from_face Front then Some (to, to_face) else slice_index_or self.old.front_to.items panel None) }
+        ensures back_to { (panel : ℕ) → slice_index_or self.new.back_to.items panel None
+            ≡ (if (from == panel) && same_face from_face Back then Some (to, to_face) else slice_index_or self.old.back_to.items panel None) }
+        ensures front_count { length self.new.front_to.items ≡ length self.old.front_to.items }
+        ensures back_count { length self.new.back_to.items ≡ length self.old.back_to.items }
     {
         match from_face {
             Face::Front => self.front_to[usize::from(from)] = Some((to, to_face)),
             Face::Back => self.back_to[usize::from(from)] = Some((to, to_face)),
         }
+    }
+
+    // Lets jumps lead where a line says.
+    fn set(&mut self, leading: Leading)
+        requires paired { ArePaired self.old }
+        requires from { leading.from < length self.old.names }
+        requires to { leading.to < length self.old.names }
+        ensures set { AddsJump self.old self.new leading }
+        ensures paired { ArePaired self.new }
+    {
+        let Leading {
+            from,
+            from_face,
+            to,
+            to_face,
+            both,
+        } = leading;
+        if both {
+            self.lead(to, to_face, from, from_face);
+        }
+        self.lead(from, from_face, to, to_face);
+    }
+
+    /// Adds the panel that a line gives, where so many panels of other surfaces stand before.
+    #[tactic(auto, unfolding(crate::specs::Panel::panel_in))]
+    pub fn read_panel(
+        &mut self,
+        alloc: Global,
+        dims: u8,
+        others: usize,
+        line: &StatedLine<'_>,
+    ) -> Result<(), Refusal>
+        requires least { 1 ≤ dims }
+        requires most { dims ≤ 3 }
+        requires few { others ≤ most_panels }
+        ensures added { OnOk result (IsOkAnd (panel_in dims others self.old.names line.now) (AddsPanel self.old self.new)) }
+        ensures refused { (kind : TheKind) → result ≡ Err (At kind) → panel_in dims others self.old.names line.now ≡ Err kind }
+    {
+        let (facing, rect) = shape_in(dims, line)?;
+        add_name(alloc, &mut self.names, dims, line)?;
+        unless(self.names.len() <= MOST_PANELS - others, Kind::TooMany)?;
+        self.push(rect, facing.greater)?;
+        Ok(())
+    }
+
+    /// Lets jumps lead where a line says.
+    pub fn read_jump(&mut self, line: &StatedLine<'_>) -> Result<(), Kind>
+        requires paired { ArePaired self.old }
+        requires few { length self.old.names ≤ 2 ^ 16 }
+        ensures set { OnOk result (IsOkAnd (jump_in self.old.names self.old.rects.items line.now) (AddsJump self.old self.new)) }
+        ensures paired { OnOk result (ArePaired self.new) }
+        ensures refused { (kind : TheKind) → result ≡ Err kind → jump_in self.old.names self.old.rects.items line.now ≡ Err kind }
+    {
+        let leading = jump_in(&self.names, self.rects.as_slice(), line)?;
+        self.set(leading);
+        Ok(())
     }
 }
