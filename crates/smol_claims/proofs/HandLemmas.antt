@@ -1,11 +1,9 @@
 -- What a worker has in hand, after each kind of step.
-use Rattle.std.proofs.Common.{◌≡◌, ℕ, suc, ◌+◌, ◌<◌, ◌≤◌, Bool, true, false, not, ◌&&◌, ◌||◌, ◌==◌, nat_lt, List, [], ◌∷◌, ◌++◌, length, length-append, ◌⊎◌, refl, sym, ◌∙◌, ap, subst, ⊎_elim, arith, if◌then◌else◌}
-use Rattle.std.proofs.lemmas.Bool.{cases_eq, cases_lt, cases_Bool, eq-eqb, ne_eqb, le-ltb, or_left, or_right, false_from_ne_true, false≢true, both_ways}
-use Rattle.smol_plan.specs.declared.pair.Pair.{Pair}
-use Rattle.smol_plan.specs.Machine.{slice_of, has_no_link}
+use Rattle.std.proofs.Common.{◌≡◌, ℕ, ◌+◌, ◌<◌, ◌≤◌, Bool, true, false, ◌||◌, ◌==◌, List, [], ◌∷◌, ◌++◌, length, length-append, refl, sym, ◌∙◌, ap, subst, ⊎_elim, arith, if◌then◌else◌}
+use Rattle.std.proofs.lemmas.Bool.{cases_eq, cases_lt, cases_Bool, eq-eqb, ne_eqb, le-ltb, or_left, or_right, false_from_ne_true}
 use Rattle.smol_claims.specs.declared.view.Link.{Link}
 use Rattle.smol_claims.specs.declared.view.View.{View}
-use Rattle.smol_claims.specs.View.{has, times, but, free_pairs, view_taking, view_deciding, view_telling}
+use Rattle.smol_claims.specs.View.{has, times, but, free_pairs, view_taking, view_telling}
 use Rattle.smol_claims.specs.Plays.{IsNew, Decides}
 use Rattle.smol_claims.specs.Hand.{IsInHand, IsDone, OnlyLooks}
 use Rattle.smol_claims.proofs.ListLemmas.{has-append, has-but, times-append, times-none, has-times, has-free_below, length-once, nothing_in}
@@ -99,11 +97,11 @@ hand_received v w l stack h e new below =
     once : (j : ℕ) → times (stack ++ l.pair ∷ []) j + times v.mine j ≤ 1
     once j = ⊎_elim
         (λ (q : j ≡ l.pair).
-          let one : times (stack ++ l.pair ∷ []) l.pair + times v.mine l.pair ≤ 1 = omega (arith, times-append stack (l.pair ∷ []) l.pair, one_at l.pair, none_there, none_decided) in
-          subst (λ i. times (stack ++ l.pair ∷ []) i + times v.mine i ≤ 1) (sym q) one)
+        let one : times (stack ++ l.pair ∷ []) l.pair + times v.mine l.pair ≤ 1 = omega (arith, times-append stack (l.pair ∷ []) l.pair, one_at l.pair, none_there, none_decided) in
+        subst (λ i. times (stack ++ l.pair ∷ []) i + times v.mine i ≤ 1) (sym q) one)
         (λ (n : j ≡ l.pair → ⊥).
-          let s : times (stack ++ l.pair ∷ []) j ≡ times stack j + (0 + 0) = rw (ne_eqb j l.pair n) at (shares j) in
-          omega (arith, h.once j, s))
+        let s : times (stack ++ l.pair ∷ []) j ≡ times stack j + (0 + 0) = rw (ne_eqb j l.pair n) at (shares j) in
+        omega (arith, h.once j, s))
         (cases_eq j l.pair)
 
     inside : (j : ℕ) → length v.pairs ≤ j → times (stack ++ l.pair ∷ []) j + times v.mine j ≡ 0

@@ -11,3 +11,7 @@ pub mod OpenLemmas
 pub mod SitLemmas
 pub mod HandLemmas
 pub mod NextLinkLemmas
+pub mod FreeLemmas
+pub mod CloseLemmas
+pub mod AllLemmas
+pub mod EventLemmas

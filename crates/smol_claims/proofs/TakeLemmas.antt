@@ -39,7 +39,7 @@ module _ (pairs : List Pair) (workers : ℕ) (s : WordsAndViews) (r : KeepsRule 
   this_word = get_or-set_same s.words (slice_at slice) 1 0 in_words
 
   -- where the word was 0 the slice was not taken
-  untaken : get_or s.words (slice_at slice) 0 ≡ 0 → is_taken_in pairs s.words slice ≡ false
+  pub untaken : get_or s.words (slice_at slice) 0 ≡ 0 → is_taken_in pairs s.words slice ≡ false
   untaken e = rw (e, lt-ltb _ _ inside) refl
 
   this_taken : is_taken_in pairs (set s.words (slice_at slice) 1) slice ≡ true
@@ -155,7 +155,7 @@ module _ (pairs : List Pair) (workers : ℕ) (s : WordsAndViews) (r : KeepsRule 
         mine = false_from_ne_true _ (λ m. false≢true (ap is_some (sym idle.undecided) ∙ (r.views id v at).mine j m));
       }
 
-  found_is : (get_or s.words (slice_at slice) 0 ≡ 0) ⊎ (get_or s.words (slice_at slice) 0 ≡ 1)
+  pub found_is : (get_or s.words (slice_at slice) 0 ≡ 0) ⊎ (get_or s.words (slice_at slice) 0 ≡ 1)
   found_is = ⊎_elim
       (λ (e : get_or s.words (slice_at slice) 0 ≡ 0). inl e)
       (λ (n : get_or s.words (slice_at slice) 0 ≡ 0 → ⊥). inr (omega (arith, n, r.slices slice inside)))

@@ -10,3 +10,10 @@ pub record AreFresh (pairs : List Pair) (words : List ℕ) : Type 0 where
   pub before : (i : ℕ) → i < counter_at pairs 0 → slice_index words i ≡ 0
   pub counters : (j : ℕ) → j < length pairs → slice_index words (counter_at pairs j) ≡ left_of pairs first_state j
   pub behind : (i : ℕ) → decision_at pairs 0 ≤ i → slice_index words i ≡ 0
+
+-- the same, where the counters of the pairs below n alone are so
+pub record AreFreshUpTo (n : ℕ) (pairs : List Pair) (words : List ℕ) : Type 0 where
+  pub wide : length words ≡ word_count pairs
+  pub before : (i : ℕ) → i < counter_at pairs 0 → slice_index words i ≡ 0
+  pub counters : (j : ℕ) → j < n → slice_index words (counter_at pairs j) ≡ left_of pairs first_state j
+  pub behind : (i : ℕ) → decision_at pairs 0 ≤ i → slice_index words i ≡ 0

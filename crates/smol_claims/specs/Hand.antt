@@ -1,8 +1,9 @@
 -- A worker as contracts see it, and the pairs that it has in hand.
 use Rattle.std.specs.Prelude.{ℕ, ◌≡◌, ◌+◌, ◌<◌, ◌≤◌, true, List, [], length}
 use Rattle.atomic_table.specs.Seated.{TableId}
+use Rattle.smol_plan.specs.Machine.{slice_count}
 use Rattle.smol_claims.specs.declared.view.View.{View}
-use Rattle.smol_claims.specs.View.{has, times}
+use Rattle.smol_claims.specs.View.{has, times, newcomer}
 use Rattle.smol_claims.specs.Plays.{Known}
 use Rattle.smol_claims.specs.Task.{Task}
 
@@ -16,6 +17,17 @@ pub record WorksFor (hand : Hand) (task : Task) : Type 0 where
   pub table : hand.table ≡ task.table
   pub pairs : hand.view.pairs ≡ task.pairs
   pub workers : hand.view.workers ≡ task.workers
+
+-- the worker is one of this matching that has done nothing, with one part of the share
+pub record IsNewFor (task : Task) (hand : Hand) : Type 0 where
+  pub table : hand.table ≡ task.table
+  pub view : hand.view ≡ newcomer task.pairs task.workers 1
+
+-- the worker has run for this matching: it has seen every slice taken, and has this share
+pub record HasRun (task : Task) (share : ℕ) (worker : Hand) : Type 0 where
+  pub works : WorksFor worker task
+  pub seen : worker.view.seen ≡ slice_count task.pairs
+  pub share_is : worker.view.share ≡ share
 
 -- a seat of this matching that is not spent
 pub record SitsAt (table : TableId) (known : Known) (task : Task) : Type 0 where

@@ -15,6 +15,7 @@ pub record AreKept (claims : Inside) : Type 0 where
   pub ordered : IsOrdered claims.setup.plan
   pub key : claims.table.shared.key ≡ claims.setup
   pub words : claims.table.shared.table_id.words ≡ word_count claims.setup.plan
+  pub slots : claims.table.shared.table_id.slots ≡ 0
   pub room : word_count claims.setup.plan < 2 ^ 64
   pub answer : vec_len claims.answer ≡ length claims.setup.plan
   pub some : 1 ≤ claims.setup.workers

@@ -5,6 +5,7 @@ pub mod Spelled
 pub mod Rule
 pub mod Plays
 pub mod Fresh
+pub mod Law
 pub mod Task
 pub mod Hand
 pub mod KeptWorker

@@ -1,7 +1,8 @@
 -- What each kind of step tells the seat that makes it: its view after the step, and what it can know from then on.
-use Rattle.std.specs.Prelude.{ℕ, ◌≡◌, ◌<◌, ◌⊎◌, true, false, ◌==◌, length, Some}
+use Rattle.std.specs.Prelude.{ℕ, ◌≡◌, ◌<◌, ◌⊎◌, true, false, ◌==◌, length, Some, Option, None, if◌then◌else◌, Bool}
 use Rattle.atomic_table.specs.Table.{Me, Step}
 use Rattle.smol_plan.specs.declared.pair.Side.{Side}
+use Rattle.smol_plan.specs.Matching.{fires}
 use Rattle.smol_plan.specs.Links.{source_of}
 use Rattle.smol_plan.specs.Machine.{slice_count}
 use Rattle.smol_claims.specs.declared.view.Link.{Link}
@@ -48,6 +49,14 @@ pub record LooksAt (v : View) (j found : ℕ) (w : View) : Type 0 where
   pub view : w ≡ view_looking v j found
   pub code : IsCodeOf v.pairs j found
   pub known : KnowsDecided v j → found ≡ 0 → ⊥
+
+-- a look at the pair that was answered so: by the word that it found, and never by nothing of a pair that the seat can
+-- know to be decided
+pub record Sees (v : View) (j : ℕ) (answer : Option Bool) (w : View) : Type 0 where
+  pub word : ℕ
+  pub view : w ≡ view_looking v j word
+  pub answer_is : answer ≡ (if word == 0 then None else Some (fires v.pairs j))
+  pub known : KnowsDecided v j → answer ≡ Some (fires v.pairs j)
 
 -- a decision of the pair
 pub record Decides (v : View) (j : ℕ) (w : View) : Type 0 where

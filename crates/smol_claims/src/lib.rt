@@ -6,16 +6,26 @@
 #![tactic(auto)]
 
 mod claims;
+mod close;
 mod code;
+mod fresh;
+mod law;
+mod matching;
+mod open;
 mod plays;
 mod rule;
 mod settle;
 mod setup;
 mod steps;
+#[cfg(test)]
+mod tests;
 mod view;
+mod work;
 mod worker;
 
 pub use claims::Claims;
+pub use law::each_step_is_an_event;
+pub use matching::match_pairs;
 pub use rule::Claiming;
 pub use setup::Setup;
 pub use view::{Link, Look, View};

@@ -1,7 +1,7 @@
 //! How a worker decides the pairs that it holds, and those that it gets by that.
 ghost use Rattle.std.specs.Prelude.{◌≡◌, ℕ, ◌+◌, ◌<◌, ◌≤◌, [], ◌∷◌, ◌++◌, true, not, ◌&&◌, length, vec_capacity};
 ghost use Rattle.smol_plan.specs.declared.pair.Side.{Side};
-ghost use Rattle.smol_plan.specs.Pair.{molecule_at};
+ghost use Rattle.smol_plan.specs.Pair.{molecule_at, IsOrdered};
 ghost use Rattle.smol_plan.specs.Links.{is_taken_before, comes_by};
 ghost use Rattle.smol_claims.specs.View.{has, has_link};
 ghost use Rattle.smol_claims.specs.Code.{serial_decision};
@@ -62,6 +62,9 @@ impl Claims {
         ensures seen { seat.new.me.0.seen ≡ seat.old.me.0.seen }
         ensures share { seat.new.me.0.share ≡ seat.old.me.0.share }
         ensures room { vec_capacity stack.new ≡ vec_capacity stack.old }
+
+        // The two molecules of a pair differ, so that no link comes by both.
+        ensures ordered { IsOrdered self.now.pairs }
     {
         if let Some((next, next_side)) = self.setup.plan.after(pair, side) {
             if self.tell(seat, next, next_side) {
@@ -73,6 +76,7 @@ impl Claims {
     // Decides a pair that came off the stack, and tells both links that come from it.
     fn settle(&self, seat: &mut Seat<(), View>, stack: &mut Vec<usize>, pair: usize)
         requires sits { SitsAt seat.old.table_id seat.old.me self.now }
+        requires pair { pair < length self.now.pairs }
         requires hand { IsInHand seat.old.me.0 (stack.old.items ++ pair ∷ []) }
         requires owed { seat.old.me.0.owed ≡ [] }
         requires room { length self.now.pairs ≤ vec_capacity stack.old }

@@ -1,9 +1,8 @@
-pub mod NameLemmas
-pub mod Lookups
-pub mod KeptLemmas
-pub mod Lines
-pub mod Motions
-pub mod Soundness
-pub mod WholeTests
-pub mod Reading
 pub mod StatementLemmas
+pub mod Held
+pub mod SpeciesNames
+pub mod Drafts
+pub mod Kept
+pub mod Rules
+pub mod WholeSound
+pub mod Reading

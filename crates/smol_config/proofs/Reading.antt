@@ -1,38 +1,34 @@
 -- Reading on, line by line, and how it ends.
-use Rattle.std.proofs.Common.{◌≡◌, ◌≢◌, List, [], ◌∷◌, None, Some, Ok, Err, refl, sym, ap, ◌∙◌}
+use Rattle.std.proofs.Common.{◌≡◌, List, [], ◌∷◌, Result, Ok, Err, refl, sym, ap, ◌∙◌}
 use Rattle.smol_text.specs.Reading.{Stated}
 use Rattle.smol_types.specs.declared.draft.Draft.{Draft}
 use Rattle.smol_types.specs.declared.fault.Kind.{Kind}
-use Rattle.smol_types.specs.declared.fault.ConfigFault.{ConfigFault}
-use Rattle.smol_types.specs.declared.fault.ConfigFault.TheVariants as fault
-use Rattle.smol_config.specs.declared.refusal.Refusal.{Refusal}
-use Rattle.smol_config.specs.declared.refusal.Refusal.TheVariants.{At, OutOfMemory}
-use Rattle.smol_config.specs.Look.{Words}
-use Rattle.smol_config.specs.Whole.{whole_fault}
-use Rattle.smol_config.specs.Content.{content_of}
-use Rattle.smol_config.specs.Acceptance.{line_fault, refused_or, accepted_whole, accepted}
-use Rattle.smol_config.specs.Tables.{refused_at}
+use Rattle.smol_line.specs.declared.refusal.Refusal.{Refusal}
+use Rattle.smol_line.specs.declared.refusal.Refusal.TheVariants.{At, OutOfMemory}
+use Rattle.smol_line.specs.Checks.{with_value}
+use Rattle.smol_line.specs.Fault.{Fault, fault_at, at_line, Tells}
+use Rattle.smol_config.specs.Said.{Said}
+use Rattle.smol_config.specs.Reader.{config_from, line_in, read_from}
+use Rattle.smol_config.specs.Told.{told_at}
+use Rattle.smol_config.specs.Whole.{whole_in}
 
 -- a line without a fault is read, and the reading goes on behind it
-pub accepted-next : (before : List Words) (line : Stated) (lines : List Stated) → line_fault before line.words ≡ None → accepted before (line ∷ lines) ≡ accepted (line.words ∷ before) lines
-accepted-next before line lines fine = ap (λ found. refused_or found line.number (accepted (line.words ∷ before) lines)) fine
+pub read_from-next : (before : List Said) (line : Stated) (lines : List Stated) (said : Said) → line_in before line ≡ Ok said → read_from before (line ∷ lines) ≡ read_from (said ∷ before) lines
+read_from-next before line lines said fine = ap (λ (found : Result Said Kind). with_value (at_line line.number found) (λ said. read_from (said ∷ before) lines)) fine
 
--- a line with a fault ends the reading
-accepted-refused : (before : List Words) (line : Stated) (lines : List Stated) (kind : Kind) → line_fault before line.words ≡ Some kind → accepted before (line ∷ lines) ≡ Err (fault.At line.number kind)
-accepted-refused before line lines kind failed = ap (λ found. refused_or found line.number (accepted (line.words ∷ before) lines)) failed
+-- a line with a fault ends it
+read_from-refused : (before : List Said) (line : Stated) (lines : List Stated) (kind : Kind) → line_in before line ≡ Err kind → read_from before (line ∷ lines) ≡ Err (fault_at line.number kind)
+read_from-refused before line lines kind failed = ap (λ (found : Result Said Kind). with_value (at_line line.number found) (λ said. read_from (said ∷ before) lines)) failed
 
-pub refused_line : (all rest : List Stated) (before : List Words) (line : Stated) (more : List Stated) (refusal : Refusal) (result : ConfigFault) → accepted [] all ≡ accepted before rest → rest ≡ line ∷ more → ((kind : Kind) → refusal ≡ At kind → line_fault before line.words ≡ Some kind) → result ≡ refused_at line.number refusal → result ≢ fault.OutOfMemory → accepted [] all ≡ Err result
-refused_line all rest before line more (At kind) result same next failed is other =
-    same ∙ ap (accepted before) next ∙ accepted-refused before line more kind (failed kind refl) ∙ ap (λ why. Err why) (sym is)
-refused_line all rest before line more OutOfMemory result same next failed is other = absurd (other is)
+pub refused_line : (all rest : List Stated) (before : List Said) (line : Stated) (more : List Stated) (refusal : Refusal) → read_from [] all ≡ read_from before rest → rest ≡ line ∷ more → ((kind : Kind) → refusal ≡ At kind → line_in before line ≡ Err kind) → Tells (told_at line.number refusal) (config_from all)
+refused_line all rest before line more (At kind) same next failed =
+    ap (λ (said : Result (List Said) Fault). with_value said whole_in) (same ∙ ap (read_from before) next ∙ read_from-refused before line more kind (failed kind refl))
+refused_line all rest before line more OutOfMemory same next failed = tt
 
--- the whole is taken behind its last line
-pub taken_whole : (all rest : List Stated) (before : List Words) (config : Draft) → accepted [] all ≡ accepted before rest → rest ≡ [] → whole_fault before ≡ None → config ≡ content_of before → accepted [] all ≡ Ok config
-taken_whole all rest before config same ended fine content =
-    same ∙ ap (accepted before) ended ∙ ap (accepted_whole before) fine ∙ ap (λ draft. Ok draft) (sym content)
+-- behind the last line the whole is tested
+pub config_from-whole : (all rest : List Stated) (before : List Said) → read_from [] all ≡ read_from before rest → rest ≡ [] → config_from all ≡ whole_in before
+config_from-whole all rest before same ended = ap (λ (said : Result (List Said) Fault). with_value said whole_in) (same ∙ ap (read_from before) ended)
 
--- or it is refused there
-pub refused_whole : (all rest : List Stated) (before : List Words) (refusal : Refusal) (result : ConfigFault) → accepted [] all ≡ accepted before rest → rest ≡ [] → ((kind : Kind) → refusal ≡ At kind → whole_fault before ≡ Some kind) → result ≡ refused_at 0 refusal → result ≢ fault.OutOfMemory → accepted [] all ≡ Err result
-refused_whole all rest before (At kind) result same ended failed is other =
-    same ∙ ap (accepted before) ended ∙ ap (accepted_whole before) (failed kind refl) ∙ ap (λ why. Err why) (sym is)
-refused_whole all rest before OutOfMemory result same ended failed is other = absurd (other is)
+pub refused_whole : (refusal : Refusal) (outcome : Result Draft Fault) → ((kind : Kind) → refusal ≡ At kind → outcome ≡ Err (fault_at 0 kind)) → Tells (told_at 0 refusal) outcome
+refused_whole (At kind) outcome failed = failed kind refl
+refused_whole OutOfMemory outcome failed = tt

@@ -1,12 +1,12 @@
--- The words of the code's lists are those of the definitions.
+-- The words of the code's tables are those of the definitions.
 use Rattle.std.proofs.Common.{◌≡◌, ℕ, List, refl}
 use Rattle.std.specs.List.{list_any}
 use Rattle.std.specs.Str.{bytes_eq}
 use Rattle.smol_config.specs.declared.statement.TheConstants.{PASSED_OVER, NOT_IN_PROFILE}
-use Rattle.smol_config.specs.Statement.{display_words, left_out_words}
+use Rattle.smol_config.specs.Statement.{passed_over_words, left_out_words}
 
-pub display_words_are_looked_for : (word : List ℕ) → list_any (λ name. bytes_eq word name.now) PASSED_OVER ≡ list_any (bytes_eq word) display_words
-display_words_are_looked_for word = refl
+pub passed_over_words_are_looked_for : (word : List ℕ) → list_any (λ name. bytes_eq word name.now) PASSED_OVER ≡ list_any (bytes_eq word) passed_over_words
+passed_over_words_are_looked_for word = refl
 
 pub left_out_words_are_looked_for : (word : List ℕ) → list_any (λ name. bytes_eq word name.now) NOT_IN_PROFILE ≡ list_any (bytes_eq word) left_out_words
 left_out_words_are_looked_for word = refl

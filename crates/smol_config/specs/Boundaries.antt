@@ -1,34 +1,44 @@
 -- `boundaries AXIS LOW HIGH [LETTER]`: the two walls of an axis, and what they do. It stands once for each axis in use.
-use Rattle.std.specs.Prelude.{ℕ, ◌||◌, ◌==◌, int_lt, List, [], ◌∷◌, length, Option, None, Some, is_some}
-use Rattle.std.specs.Result.{result_err}
+use Rattle.std.specs.Prelude.{ℕ, ◌||◌, ◌==◌, int_lt, List, [], ◌∷◌, length, Result, Ok, Err, if◌then◌else◌, codes}
+use Rattle.std.specs.Str.{bytes_eq}
+use Rattle.smol_text.specs.Reading.{Stated, words_of}
 use Rattle.smol_types.specs.declared.fault.Kind.{Kind}
-use Rattle.smol_types.specs.declared.fault.Kind.TheVariants.{WrongWordCount, OutOfRange, BadOrder}
-use Rattle.smol_config.specs.Look.{Words, word_at}
-use Rattle.smol_config.specs.Dim.{dims_of}
-use Rattle.smol_config.specs.Tests.{first_fault, once, unless}
-use Rattle.smol_config.specs.Walls.{axis_named, axis_in, micros_in, line_letter, bounds_value, bounds_of, axes_of}
+use Rattle.smol_types.specs.declared.fault.Kind.TheVariants.{WrongWordCount, OutOfRange, BadAction}
+use Rattle.smol_types.specs.declared.wall.Letter.{Letter}
+use Rattle.smol_types.specs.declared.wall.Letter.TheVariants.{R, P, A, T}
+use Rattle.smol_line.specs.Words.{word_at}
+use Rattle.smol_line.specs.Checks.{unless, once, passing, with_value}
+use Rattle.smol_line.specs.Axis.{axis_in}
+use Rattle.smol_line.specs.Length.{micros_in}
+use Rattle.smol_config.specs.declared.walls.Bounds.{Bounds}
+use Rattle.smol_config.specs.Said.{Said}
+use Rattle.smol_config.specs.Dim.{needs_dim}
+use Rattle.smol_config.specs.Walls.{bounds_of}
 
--- the walls of the axis that a line names are given once
-abbrev pub once_bounded : List Words → Option ℕ → Option Kind
-once_bounded before None = None
-once_bounded before (Some axis) = once (bounds_of axis before)
+-- what the walls do, by their letter
+unfoldable pub letter_in : List ℕ → Result Letter Kind
+letter_in word =
+    if bytes_eq word (codes "r")
+    then Ok R
+    else (if bytes_eq word (codes "p") then Ok P else (if bytes_eq word (codes "a") then Ok A else (if bytes_eq word (codes "t") then Ok T else Err BadAction)))
 
--- the fault of the walls of a line
-unfoldable pub bounds_fault : Words → Option Kind
-bounds_fault words =
-    first_fault
-    (result_err (micros_in (word_at words 2))
-    ∷ result_err (micros_in (word_at words 3))
-    ∷ result_err (line_letter words)
-    ∷ unless (int_lt (bounds_value words).low.0 (bounds_value words).high.0) OutOfRange
-    ∷ [])
+-- the letter of a line, which is `t` where it has none
+abbrev pub line_letter : Stated → Result Letter Kind
+line_letter line = if length (words_of line) == 5 then letter_in (word_at line 4) else Ok T
 
-unfoldable pub boundaries_fault : List Words → Words → Option Kind
-boundaries_fault before words =
-    first_fault
-    (unless (is_some (dims_of before)) BadOrder
-    ∷ unless ((length words == 4) || (length words == 5)) WrongWordCount
-    ∷ result_err (axis_in (axes_of before) (word_at words 1))
-    ∷ bounds_fault words
-    ∷ once_bounded before (axis_named (word_at words 1))
-    ∷ [])
+-- the walls that a line gives, whatever axis it names
+unfoldable pub bounds_in : Stated → Result Bounds Kind
+bounds_in line =
+    with_value (micros_in (word_at line 2)) (λ low.
+    with_value (micros_in (word_at line 3)) (λ high.
+    with_value (line_letter line) (λ letter.
+    passing (unless (int_lt low high) OutOfRange ∷ [])
+    (Ok (record { low = record { 0 = low }; high = record { 0 = high }; letter = letter })))))
+
+unfoldable pub boundaries_in : List Said → Stated → Result (ℕ × Bounds) Kind
+boundaries_in before line =
+    with_value (needs_dim before) (λ dims.
+    passing (unless ((length (words_of line) == 4) || (length (words_of line) == 5)) WrongWordCount ∷ [])
+    (with_value (axis_in dims (word_at line 1)) (λ axis.
+    with_value (bounds_in line) (λ bounds.
+    passing (once (bounds_of axis before) ∷ []) (Ok (axis, bounds))))))

@@ -1,21 +1,28 @@
--- `dim D`: the number of axes, 1 to 3. It stands once.
-use Rattle.std.specs.Prelude.{ℕ, List, [], ◌∷◌, Option}
-use Rattle.std.specs.Option.{option_map}
-use Rattle.std.specs.Result.{result_err, result_unwrap_or}
+-- `dim D`: the number of axes in use, 1 to 3. It stands once.
+use Rattle.std.specs.Prelude.{ℕ, List, [], ◌∷◌, Option, None, Some, Result}
+use Rattle.smol_text.specs.Reading.{Stated}
 use Rattle.smol_types.specs.declared.fault.Kind.{Kind}
-use Rattle.smol_config.specs.declared.statement.Statement.TheVariants.{Dim}
-use Rattle.smol_config.specs.Look.{Words, word_at, given}
-use Rattle.smol_config.specs.Tests.{first_fault, once, word_count}
-use Rattle.smol_config.specs.Numbers.{count_in}
+use Rattle.smol_types.specs.declared.fault.Kind.TheVariants.{BadOrder}
+use Rattle.smol_line.specs.Words.{word_at}
+use Rattle.smol_line.specs.Checks.{once, word_count, passing, there}
+use Rattle.smol_line.specs.Numbers.{count_in}
+use Rattle.smol_config.specs.Said.{Said, axes, nearest}
 
--- the number of axes that a line gives
-abbrev pub dim_value : Words → ℕ
-dim_value words = result_unwrap_or (count_in 1 3 (word_at words 1)) 0
+-- the most axes that may be in use
+abbrev pub most_axes : ℕ
+most_axes = 3
 
--- the number of axes that the lines before give
-abbrev pub dims_of : List Words → Option ℕ
-dims_of before = option_map dim_value (given Dim before)
+abbrev pub said_axes : Said → Option ℕ
+said_axes (axes dims) = Some dims
+said_axes other = None
 
-unfoldable pub dim_fault : List Words → Words → Option Kind
-dim_fault before words =
-    first_fault (once (dims_of before) ∷ word_count 2 words ∷ result_err (count_in 1 3 (word_at words 1)) ∷ [])
+-- the number of axes in use, where a line before gives it
+abbrev pub dims_of : List Said → Option ℕ
+dims_of before = nearest said_axes before
+
+-- a statement that needs `dim` before it
+abbrev pub needs_dim : List Said → Result ℕ Kind
+needs_dim before = there (dims_of before) BadOrder
+
+unfoldable pub dim_in : List Said → Stated → Result ℕ Kind
+dim_in before line = passing (once (dims_of before) ∷ word_count 2 line ∷ []) (count_in 1 most_axes (word_at line 1))

@@ -1,11 +1,7 @@
 pub mod Statement
-pub mod Look
-pub mod Tests
-pub mod Numbers
-pub mod Names
+pub mod Said
 pub mod Dim
 pub mod Species
-pub mod SpeciesWord
 pub mod Motion
 pub mod Times
 pub mod MaxMol
@@ -16,6 +12,7 @@ pub mod Mol
 pub mod Cmd
 pub mod Content
 pub mod Whole
-pub mod Kept
+pub mod Reader
+pub mod SoFar
 pub mod Tables
-pub mod Acceptance
+pub mod Told

@@ -1,5 +1,5 @@
 -- The first word of a line, and the statement that it makes.
-use Rattle.std.specs.Prelude.{ℕ, Bool, ◌==◌, List, [], ◌∷◌, if◌then◌else◌, codes}
+use Rattle.std.specs.Prelude.{ℕ, List, [], ◌∷◌, if◌then◌else◌, codes}
 use Rattle.std.specs.List.{list_any}
 use Rattle.std.specs.Str.{bytes_eq}
 use Rattle.smol_config.specs.declared.statement.Statement.{Statement}
@@ -22,9 +22,9 @@ built =
     ∷ (codes "cmd", Cmd)
     ∷ []
 
--- the first words of lines about display, which are passed over unread
-abbrev pub display_words : List (List ℕ)
-display_words =
+-- the first words of lines that are passed over unread
+abbrev pub passed_over_words : List (List ℕ)
+passed_over_words =
     codes "graphics"
     ∷ codes "graphic_iter"
     ∷ codes "graphic_delay"
@@ -98,30 +98,9 @@ abbrev pub named : List (List ℕ × Statement) → List ℕ → Statement
 named [] word = Unknown
 named (entry ∷ entries) word = if bytes_eq word entry.0 then entry.1 else named entries word
 
--- the statement that a word makes: a word about display is passed over, and one that the profile leaves out is told from an unknown one
+-- the statement that a first word makes. A word that the profile leaves out is told from an unknown one
 unfoldable pub statement_of : List ℕ → Statement
 statement_of word =
-    if list_any (bytes_eq word) display_words
+    if list_any (bytes_eq word) passed_over_words
     then PassedOver
     else (if list_any (bytes_eq word) left_out_words then NotInProfile else named built word)
-
--- the place of a statement in the list of all
-abbrev pub place_of : Statement → ℕ
-place_of PassedOver = 0
-place_of NotInProfile = 1
-place_of Unknown = 2
-place_of Dim = 3
-place_of Species = 4
-place_of Difc = 5
-place_of Difstep = 6
-place_of TimeStart = 7
-place_of TimeStop = 8
-place_of TimeStep = 9
-place_of MaxMol = 10
-place_of RandomSeed = 11
-place_of Boundaries = 12
-place_of Mol = 13
-place_of Cmd = 14
-
-abbrev pub same_statement : Statement → Statement → Bool
-same_statement a b = place_of a == place_of b

@@ -1,53 +1,65 @@
--- What the reader keeps of the lines read so far: each quantity is its look-up over these lines, and together they are sound.
-use Rattle.std.specs.Prelude.{◌≡◌, ◌≤◌, ℕ, pos, ◌<ℤ◌, List, length, All, IfSome, unsigned_abs}
-use Rattle.smol_types.specs.declared.command.Command.{Command}
-use Rattle.smol_types.specs.Sound.{IsAct}
-use Rattle.smol_config.specs.declared.statement.Statement.TheVariants.{TimeStart, TimeStop, TimeStep}
-use Rattle.smol_types.specs.declared.fault.ConfigFault.{ConfigFault}
-use Rattle.smol_types.specs.declared.fault.ConfigFault.TheVariants as fault
-use Rattle.smol_config.specs.declared.refusal.Refusal.{Refusal}
-use Rattle.smol_config.specs.declared.refusal.Refusal.TheVariants.{At, OutOfMemory}
+-- What the reader keeps of the lines read so far. This is no part of what a text means.
+use Rattle.std.specs.Prelude.{◌≡◌, ◌≤◌, ◌+◌, ℕ, ℤ, unsigned_abs, List, [], ◌∷◌, length, Option, None, Some, Result, Ok, Err, slice_index_or}
+use Rattle.smol_text.specs.Reading.{Stated}
+use Rattle.smol_types.specs.declared.fault.Kind.{Kind}
+use Rattle.smol_types.specs.declared.species.Species.{Species as TheSpecies}
+use Rattle.smol_line.specs.Length.{most_micros}
+use Rattle.smol_line.specs.declared.refusal.Refusal.{Refusal}
+use Rattle.smol_line.specs.declared.refusal.Refusal.TheVariants.{At, OutOfMemory}
+use Rattle.smol_config.specs.declared.motion.Motion.{Motion}
 use Rattle.smol_config.specs.declared.tables.Tables.{Tables}
-use Rattle.smol_config.specs.Look.{Words}
+use Rattle.smol_config.specs.declared.walls.Bounds.{Bounds}
+use Rattle.smol_config.specs.Said.{Said}
 use Rattle.smol_config.specs.Dim.{dims_of}
-use Rattle.smol_config.specs.Species.{names_of, species_of}
-use Rattle.smol_config.specs.Motion.{motion_at, motion_of}
-use Rattle.smol_config.specs.Times.{time_of}
+use Rattle.smol_config.specs.Species.{species_of}
+use Rattle.smol_config.specs.Motion.{still, motion_of, difstep_of}
+use Rattle.smol_config.specs.Times.{start_of, stop_of, step_of}
 use Rattle.smol_config.specs.MaxMol.{max_mol_of}
 use Rattle.smol_config.specs.RandomSeed.{seed_of}
-use Rattle.smol_config.specs.Walls.{AreBounds}
+use Rattle.smol_config.specs.Walls.{bounds_of}
 use Rattle.smol_config.specs.Mol.{placings_of}
 use Rattle.smol_config.specs.Cmd.{commands_of}
-use Rattle.smol_config.specs.Kept.{AreSound, IsPlaced}
+use Rattle.smol_config.specs.SoFar.{IsSoFar}
 
--- each table is the look-up over these lines, the nearest first
-pub record Holds (tables : Tables) (before : List Words) : Type 0 where
+-- these are the walls of the three axes that the lines before give
+pub record AreBounds (bounds : List (Option Bounds)) (before : List Said) : Type 0 where
+  pub x : slice_index_or bounds 0 None ≡ bounds_of 0 before
+  pub y : slice_index_or bounds 1 None ≡ bounds_of 1 before
+  pub z : slice_index_or bounds 2 None ≡ bounds_of 2 before
+
+-- each table is its look-up over what the lines so far say
+pub record Holds (tables : Tables) (before : List Said) : Type 0 where
   pub dims : tables.dims ≡ dims_of before
-  pub species : names_of tables.species.items ≡ species_of before
-  pub motions : (number : ℕ) → motion_at tables.species.items number ≡ motion_of number before
-  pub start : tables.start ≡ time_of TimeStart before
-  pub stop : tables.stop ≡ time_of TimeStop before
-  pub step : tables.step ≡ time_of TimeStep before
+  pub species : tables.species.names ≡ species_of before
+  pub motions : (number : ℕ) → slice_index_or tables.species.motions.items number still ≡ motion_of number before
+  pub start : tables.start ≡ start_of before
+  pub stop : tables.stop ≡ stop_of before
+  pub step : tables.step ≡ step_of before
   pub max_mol : tables.max_mol ≡ max_mol_of before
   pub seed : tables.seed ≡ seed_of before
+  pub axes : length tables.bounds ≡ 3
   pub bounds : AreBounds tables.bounds before
   pub placings : tables.placings ≡ placings_of before
   pub commands : tables.commands ≡ commands_of before
 
--- each table is within the limits of what it holds
-pub record IsKept (tables : Tables) : Type 0 where
-  pub dims : IfSome tables.dims (λ dims. (1 ≤ dims) × (dims ≤ 3))
-  pub species : length tables.species.items ≤ 256
-  pub start : IfSome tables.start (λ time. unsigned_abs time ≤ 1000000000000000000)
-  pub stop : IfSome tables.stop (λ time. unsigned_abs time ≤ 1000000000000000000)
-  pub step : IfSome tables.step (λ time. (unsigned_abs time ≤ 1000000000000000000) × (pos 0 <ℤ time))
-  pub max_mol : IfSome tables.max_mol (λ count. (1 ≤ count) × (count ≤ 1000000))
-  pub bounds : AreSound tables.bounds
-  pub placings : All (IsPlaced tables.dims tables.bounds (length tables.species.items)) tables.placings
-  pub commands : length tables.commands ≤ 256
-  pub acts : All (λ (command : Command). IsAct command.act) tables.commands
+-- how the reading of a line ends: it is taken and the tables hold what it says too, or its fault is told, or memory ran out
+abbrev pub Reads : {T : Type 0} → (List Said → Stated → Result Said Kind) → Stated → Tables → Tables → Result T Refusal → Type 0
+Reads rule line old new (Ok done) =
+    (before : List Said) → Holds old before → (said : Said) × (rule before line ≡ Ok said) × Holds new (said ∷ before)
+Reads rule line old new (Err (At kind)) = (before : List Said) → Holds old before → rule before line ≡ Err kind
+Reads rule line old new (Err OutOfMemory) = Unit {0}
 
--- why a line of this number isn't taken
-abbrev pub refused_at : ℕ → Refusal → ConfigFault
-refused_at line (At kind) = fault.At line kind
-refused_at line OutOfMemory = fault.OutOfMemory
+-- the tables hold what lines without a fault say
+abbrev pub IsReached : Tables → Type 0
+IsReached tables = (before : List Said) × Holds tables before × IsSoFar before
+
+-- walls of lengths that there are
+pub record AreSmall (bounds : Bounds) : Type 0 where
+  pub low : unsigned_abs bounds.low.0 ≤ most_micros
+  pub high : unsigned_abs bounds.high.0 ≤ most_micros
+
+-- the species of a table, from this number on, each with its difstep where a step takes this time
+abbrev pub species_made : ℤ → List Motion → ℕ → List (List ℕ) → List TheSpecies
+species_made time motions number [] = []
+species_made time motions number (name ∷ names) =
+    record { name = name; step = difstep_of time (slice_index_or motions number still) } ∷ species_made time motions (number + 1) names

@@ -1,36 +1,45 @@
 -- `time_start T`, `time_stop T` and `time_step T`: times in nanos, from -10^9 to 10^9 seconds. Each stands once, and the step is above 0.
-use Rattle.std.specs.Prelude.{ℕ, ℤ, pos, negsuc, int_lt, List, [], ◌∷◌, Option, Result}
-use Rattle.std.specs.Option.{option_map}
-use Rattle.std.specs.Result.{result_err, result_unwrap_or}
+use Rattle.std.specs.Prelude.{ℕ, ℤ, pos, negsuc, int_lt, List, [], ◌∷◌, Option, None, Some, Result, Ok, Err}
+use Rattle.smol_text.specs.Reading.{Stated}
 use Rattle.smol_types.specs.declared.fault.Kind.{Kind}
 use Rattle.smol_types.specs.declared.fault.Kind.TheVariants.{OutOfRange}
-use Rattle.smol_config.specs.declared.statement.Statement.{Statement}
-use Rattle.smol_config.specs.declared.statement.Statement.TheVariants.{TimeStep}
-use Rattle.smol_config.specs.Look.{Words, word_at, given}
-use Rattle.smol_config.specs.Tests.{first_fault, unless, once, word_count}
-use Rattle.smol_config.specs.Numbers.{decimal_in}
+use Rattle.smol_types.specs.Limits.{latest}
+use Rattle.smol_line.specs.Words.{word_at}
+use Rattle.smol_line.specs.Checks.{unless, once, word_count, passing, with_value}
+use Rattle.smol_line.specs.Numbers.{decimal_in}
+use Rattle.smol_config.specs.Said.{Said, starts, stops, steps, nearest}
 
 -- a time in nanos
 abbrev pub nanos_in : List ℕ → Result ℤ Kind
-nanos_in word = decimal_in 9 (negsuc 999999999999999999) (pos 1000000000000000000) word
+nanos_in word = decimal_in 9 (negsuc 999999999999999999) (pos latest) word
 
--- the time that a line gives
-abbrev pub time_value : Words → ℤ
-time_value words = result_unwrap_or (nanos_in (word_at words 1)) (pos 0)
+abbrev pub said_start : Said → Option ℤ
+said_start (starts time) = Some time
+said_start other = None
 
--- the time that the lines before give by this statement
-abbrev pub time_of : Statement → List Words → Option ℤ
-time_of statement before = option_map time_value (given statement before)
+abbrev pub said_stop : Said → Option ℤ
+said_stop (stops time) = Some time
+said_stop other = None
 
-unfoldable pub time_fault : Statement → List Words → Words → Option Kind
-time_fault statement before words =
-    first_fault (once (time_of statement before) ∷ word_count 2 words ∷ result_err (nanos_in (word_at words 1)) ∷ [])
+abbrev pub said_step : Said → Option ℤ
+said_step (steps time) = Some time
+said_step other = None
 
-unfoldable pub time_step_fault : List Words → Words → Option Kind
-time_step_fault before words =
-    first_fault
-    (once (time_of TimeStep before)
-    ∷ word_count 2 words
-    ∷ result_err (nanos_in (word_at words 1))
-    ∷ unless (int_lt (pos 0) (time_value words)) OutOfRange
-    ∷ [])
+-- the time at which the run starts, where a line before gives it, and so on
+abbrev pub start_of : List Said → Option ℤ
+start_of before = nearest said_start before
+
+abbrev pub stop_of : List Said → Option ℤ
+stop_of before = nearest said_stop before
+
+abbrev pub step_of : List Said → Option ℤ
+step_of before = nearest said_step before
+
+-- the time of a line, by what a line before gives by the same statement
+unfoldable pub time_in : Option ℤ → Stated → Result ℤ Kind
+time_in given line = passing (once given ∷ word_count 2 line ∷ []) (nanos_in (word_at line 1))
+
+-- the same of a step, which takes some time
+unfoldable pub time_step_in : List Said → Stated → Result ℤ Kind
+time_step_in before line =
+    with_value (time_in (step_of before) line) (λ time. passing (unless (int_lt (pos 0) time) OutOfRange ∷ []) (Ok time))

@@ -1,5 +1,5 @@
--- The tests of the whole file, after its last line.
-use Rattle.std.specs.Prelude.{◌≡◌, ◌<◌, ◌≤◌, ◌==◌, ◌||◌, ℕ, Bool, ℤ, pos, All, nat_le, sum_by, List, [], ◌∷◌, Option, None, Some, IsSome, is_some, slice_index_or, unwrap_or}
+-- The tests of the whole file, after its last line: what is missing, and what is too much.
+use Rattle.std.specs.Prelude.{ℕ, ◌==◌, ◌||◌, Bool, false, true, nat_le, sum_by, List, [], ◌∷◌, Option, Result, Ok, Err}
 use Rattle.std.specs.List.{list_all}
 use Rattle.smol_types.specs.declared.fault.Kind.{Kind}
 use Rattle.smol_types.specs.declared.fault.Kind.TheVariants.{Missing, OutOfRange, TooMany, NotInProfile}
@@ -7,65 +7,73 @@ use Rattle.smol_types.specs.declared.fault.Need.TheVariants.{Dim, Boundaries, Ti
 use Rattle.smol_types.specs.declared.draft.Draft.{Draft}
 use Rattle.smol_types.specs.declared.species.Species.{Species}
 use Rattle.smol_types.specs.declared.wall.Wall.{Wall}
-use Rattle.smol_types.specs.Sound.{placed_by}
+use Rattle.smol_types.specs.declared.wall.Letter.{Letter}
+use Rattle.smol_types.specs.declared.wall.Letter.TheVariants.{R, P, A, T}
+use Rattle.smol_types.specs.Limits.{longest, most_steps}
+use Rattle.smol_types.specs.Placings.{placed_by}
 use Rattle.smol_types.specs.Steps.{last_step}
-use Rattle.smol_config.specs.declared.statement.Statement.TheVariants as statement
-use Rattle.smol_config.specs.declared.tables.Tables.{Tables}
-use Rattle.smol_config.specs.declared.whole.Whole.{Whole as TheWhole}
-use Rattle.smol_config.specs.declared.named.Named.{Named}
-use Rattle.smol_config.specs.Motion.{difstep_of}
-use Rattle.smol_config.specs.Look.{Words}
+use Rattle.smol_line.specs.Fault.{Fault, at_line}
+use Rattle.smol_line.specs.Checks.{unless, passing, with_value, there}
+use Rattle.smol_config.specs.declared.whole.Needed.{Needed}
+use Rattle.smol_config.specs.Said.{Said}
 use Rattle.smol_config.specs.Dim.{dims_of}
-use Rattle.smol_config.specs.Times.{time_of}
-use Rattle.smol_config.specs.Walls.{has_walls, lets_through}
-use Rattle.smol_config.specs.Mol.{placings_of}
+use Rattle.smol_config.specs.Times.{stop_of, step_of}
+use Rattle.smol_config.specs.Walls.{bounds_of, is_walled}
 use Rattle.smol_config.specs.Content.{content_of}
-use Rattle.smol_config.specs.Tests.{first_fault, unless}
 
--- how many steps the content makes
-abbrev pub steps_of : Draft → ℕ
-steps_of draft = last_step draft.start draft.stop draft.step
+-- what a file can't do without: the number of axes, their walls, the time at which the run stops, and that of a step
+unfoldable pub needed_in : List Said → Result Needed Kind
+needed_in before =
+    with_value (there (dims_of before) (Missing Dim)) (λ dims.
+    passing
+    (unless (is_walled dims 0 (bounds_of 0 before)) (Missing (Boundaries 0))
+    ∷ unless (is_walled dims 1 (bounds_of 1 before)) (Missing (Boundaries 1))
+    ∷ unless (is_walled dims 2 (bounds_of 2 before)) (Missing (Boundaries 2))
+    ∷ [])
+    (with_value (there (stop_of before) (Missing TimeStop)) (λ stop.
+    with_value (there (step_of before) (Missing TimeStep)) (λ step.
+    Ok (record { dims = dims; stop = stop; step = step })))))
 
--- a species goes no farther in a step than 1,000 length units as the root of its mean square
+-- a run makes no more steps than it may
+abbrev pub has_few_steps : Draft → Bool
+has_few_steps draft = nat_le (last_step draft.start draft.stop draft.step) most_steps
+
+-- a species goes no farther in a step than it may, as the root of its mean square
 abbrev pub has_difstep : Species → Bool
-has_difstep species = nat_le species.step 1000000000
+has_difstep species = nat_le species.step longest
+
+-- no more molecules are placed than there may be
+abbrev pub has_room : Draft → Bool
+has_room draft = nat_le (sum_by placed_by draft.placings) draft.max_mol
 
 abbrev pub stands_still : Species → Bool
 stands_still species = species.step == 0
 
--- a wall lets molecules through
+-- walls of this letter let molecules through
+abbrev pub lets_through : Letter → Bool
+lets_through R = false
+lets_through P = false
+lets_through A = false
+lets_through T = true
+
 abbrev pub is_open : Wall → Bool
 is_open wall = lets_through wall.letter
 
-unfoldable pub whole_fault : List Words → Option Kind
-whole_fault before =
-    first_fault
-    (unless (is_some (dims_of before)) (Missing Dim)
-    ∷ unless (has_walls before 0) (Missing (Boundaries 0))
-    ∷ unless (has_walls before 1) (Missing (Boundaries 1))
-    ∷ unless (has_walls before 2) (Missing (Boundaries 2))
-    ∷ unless (is_some (time_of statement.TimeStop before)) (Missing TimeStop)
-    ∷ unless (is_some (time_of statement.TimeStep before)) (Missing TimeStep)
-    ∷ unless (nat_le (steps_of (content_of before)) 4000000) TooMany
-    ∷ unless (list_all has_difstep (content_of before).species) OutOfRange
-    ∷ unless (nat_le (sum_by placed_by (placings_of before)) (content_of before).max_mol) TooMany
-    ∷ unless (list_all stands_still (content_of before).species || list_all is_open (content_of before).walls) NotInProfile
+-- no wall has anything to do: no species moves, or the walls let molecules through
+abbrev pub is_idle : Draft → Bool
+is_idle draft = list_all stands_still draft.species || list_all is_open draft.walls
+
+-- what the lines say together, unless something in it is too much
+unfoldable pub bounded : Draft → Result Draft Kind
+bounded draft =
+    passing
+    (unless (has_few_steps draft) TooMany
+    ∷ unless (list_all has_difstep draft.species) OutOfRange
+    ∷ unless (has_room draft) TooMany
+    ∷ unless (is_idle draft) NotInProfile
     ∷ [])
+    (Ok draft)
 
--- a species of the tables as the content has it, where a step takes this time
-abbrev pub species_made : ℤ → Named → Species
-species_made time species = record { name = species.name; step = difstep_of time species.motion }
-
--- what the whole file gives, from tables that pass its tests
-pub record Fits (tables : Tables) (whole : TheWhole) : Type 0 where
-  pub dims : tables.dims ≡ Some whole.dims
-  pub x : 0 < whole.dims → IsSome (slice_index_or tables.bounds 0 None)
-  pub y : 1 < whole.dims → IsSome (slice_index_or tables.bounds 1 None)
-  pub z : 2 < whole.dims → IsSome (slice_index_or tables.bounds 2 None)
-  pub start : whole.start ≡ unwrap_or tables.start (pos 0)
-  pub stop : tables.stop ≡ Some whole.stop
-  pub step : tables.step ≡ Some whole.step
-  pub max_mol : whole.max_mol ≡ unwrap_or tables.max_mol 100000
-  pub steps : last_step whole.start whole.stop whole.step ≤ 4000000
-  pub difsteps : All (λ (species : Named). difstep_of whole.step species.motion ≤ 1000000000) tables.species.items
-  pub placed : sum_by placed_by tables.placings ≤ whole.max_mol
+-- what a file says, or the fault of the whole
+unfoldable pub whole_in : List Said → Result Draft Fault
+whole_in before = at_line 0 (with_value (needed_in before) (λ needed. bounded (content_of needed before)))

@@ -1,25 +1,21 @@
-//! `dim D`: the number of axes.
-ghost use Rattle.std.specs.Prelude.{◌≡◌, ◌≤◌, List, None, IfOk};
-ghost use Rattle.std.specs.Result.{result_err};
-ghost use Rattle.smol_config.specs.Look.{Words};
-ghost use Rattle.smol_config.specs.Dim.{dim_fault, dim_value, dims_of};
+//! `dim D`: the number of axes in use.
+ghost use Rattle.std.specs.Prelude.{◌≡◌, ◌≤◌, List, IfOk};
+ghost use Rattle.smol_config.specs.Said.{Said};
+ghost use Rattle.smol_config.specs.Dim.{dim_in, dims_of};
 
-use crate::checks::{once, word_count};
-use crate::numbers::count_in;
-use crate::words::word_at;
-use smol_text::LineWords;
+use smol_line::{count_in, once, word_at, word_count};
+use smol_text::StatedLine;
 use smol_types::Kind;
 
-/// The number of axes that a line gives, where `given` is what the lines before give.
-#[tactic(auto, unfolding(crate::specs::Dim::dim_fault))]
-pub fn judge(given: Option<u8>, words: &LineWords<'_>) -> Result<u8, Kind>
-    ensures fault { (before : List Words) → given ≡ dims_of before → result_err result ≡ dim_fault before words.now }
-    ensures fresh { IfOk result (λ _. given ≡ None) }
-    ensures value { IfOk result (λ dims. dims ≡ dim_value words.now) }
-    ensures least { IfOk result (λ dims. 1 ≤ dims) }
-    ensures most { IfOk result (λ dims. dims ≤ 3) }
+/// How many axes may be in use.
+const MOST_AXES: u64 = 3;
+
+/// The number of axes that a line gives, where `given` is what a line before gives.
+#[tactic(auto, unfolding(crate::specs::Dim::dim_in))]
+pub fn judge(given: Option<u8>, line: &StatedLine<'_>) -> Result<u8, Kind>
+    ensures { (before : List Said) → given ≡ dims_of before → result ≡ dim_in before line.now }
 {
     once(&given)?;
-    word_count(2, words)?;
-    Ok(count_in(1, 3, word_at(words, 1))? as u8)
+    word_count(2, line)?;
+    Ok(count_in(1, MOST_AXES, word_at(line, 1))? as u8)
 }

@@ -2,28 +2,23 @@
 #![tactic(auto)]
 
 mod boundaries;
-mod bounds;
-mod checks;
 mod cmd;
 mod dim;
+mod law;
 mod max_mol;
 mod mol;
 mod motion;
-mod named;
-mod names;
-mod numbers;
 mod random_seed;
-mod read;
-mod refusal;
-mod report;
+mod reader;
 mod species;
-mod species_word;
+mod species_table;
 mod statement;
 mod tables;
 #[cfg(test)]
 mod tests;
 mod times;
+mod walls;
 mod whole;
-mod words;
 
-pub use read::read_config;
+pub use law::accepted_texts_are_sound;
+pub use reader::read_config;

@@ -1,23 +1,19 @@
-//! `random_seed N`: the seed of the drawn words.
-ghost use Rattle.std.specs.Prelude.{◌≡◌, List, IfOk};
-ghost use Rattle.std.specs.Result.{result_err};
-ghost use Rattle.smol_config.specs.Look.{Words};
-ghost use Rattle.smol_config.specs.RandomSeed.{random_seed_fault, seed_of, seed_value};
+//! `random_seed N`: the seed of the random words.
+ghost use Rattle.std.specs.Prelude.{◌≡◌, List};
+ghost use Rattle.smol_config.specs.Said.{Said};
+ghost use Rattle.smol_config.specs.RandomSeed.{random_seed_in, seed_of};
 
-use crate::checks::{once, unless, word_count};
-use crate::numbers::count_in;
-use crate::words::{spells, word_at};
-use smol_text::LineWords;
+use smol_line::{count_in, once, spells, unless, word_at, word_count};
+use smol_text::StatedLine;
 use smol_types::Kind;
 
-/// The seed that a line gives, where `given` is what the lines before give.
-#[tactic(auto, unfolding(crate::specs::RandomSeed::random_seed_fault))]
-pub fn judge(given: Option<u64>, words: &LineWords<'_>) -> Result<u64, Kind>
-    ensures fault { (before : List Words) → given ≡ seed_of before → result_err result ≡ random_seed_fault before words.now }
-    ensures value { IfOk result (λ seed. seed ≡ seed_value words.now) }
+/// The seed that a line gives, where `given` is what a line before gives.
+#[tactic(auto, unfolding(crate::specs::RandomSeed::random_seed_in))]
+pub fn judge(given: Option<u64>, line: &StatedLine<'_>) -> Result<u64, Kind>
+    ensures { (before : List Said) → given ≡ seed_of before → result ≡ random_seed_in before line.now }
 {
     once(&given)?;
-    word_count(2, words)?;
-    unless(!spells(word_at(words, 1), "time"), Kind::NotInProfile)?;
-    count_in(0, u64::MAX, word_at(words, 1))
+    word_count(2, line)?;
+    unless(!spells(word_at(line, 1), "time"), Kind::NotInProfile)?;
+    count_in(0, u64::MAX, word_at(line, 1))
 }

@@ -1,11 +1,12 @@
 //! The first word of a line.
-ghost use Rattle.std.specs.Prelude.{◌≡◌};
+ghost use Rattle.std.specs.Prelude.{◌≡◌, map};
 ghost use Rattle.std.specs.List.{list_any};
 ghost use Rattle.std.specs.Str.{bytes_eq};
+ghost use Rattle.smol_config.specs.Statement.{named};
 
-use crate::words::spells;
+use smol_line::spells;
 
-/// The first words of lines about display, which are passed over unread.
+/// The first words of lines that are passed over unread.
 const PASSED_OVER: [&str; 37] = [
     "graphics",
     "graphic_iter",
@@ -94,17 +95,45 @@ pub enum Statement {
     Cmd,
 }
 
+/// The first words of the statements that are read.
+const BUILT: [(&str, Statement); 12] = [
+    ("dim", Statement::Dim),
+    ("species", Statement::Species),
+    ("difc", Statement::Difc),
+    ("difstep", Statement::Difstep),
+    ("time_start", Statement::TimeStart),
+    ("time_stop", Statement::TimeStop),
+    ("time_step", Statement::TimeStep),
+    ("max_mol", Statement::MaxMol),
+    ("random_seed", Statement::RandomSeed),
+    ("boundaries", Statement::Boundaries),
+    ("mol", Statement::Mol),
+    ("cmd", Statement::Cmd),
+];
+
 fn is_among(word: &[u8], names: &[&str]) -> bool
     ensures { result ≡ list_any (λ name. bytes_eq word.now name.now) names.now }
 {
     names.iter().any(|name| spells(word, name))
 }
 
+// What a word stands for in a table.
+fn named(table: &[(&str, Statement)], word: &[u8]) -> Statement
+    ensures { result ≡ named (map (λ entry. (entry.0.now, entry.1)) table.now) word.now }
+{
+    for entry in table {
+        if spells(word, entry.0) {
+            return entry.1;
+        }
+    }
+    Statement::Unknown
+}
+
 impl Statement {
-    ghost use Rattle.smol_config.specs.Statement.{built, named, statement_of};
+    ghost use Rattle.smol_config.specs.Statement.{statement_of};
 
     /// The statement that a word makes at the beginning of a line.
-    #[tactic(auto, using(crate::proofs::StatementLemmas::display_words_are_looked_for, crate::proofs::StatementLemmas::left_out_words_are_looked_for), unfolding(crate::specs::Statement::statement_of))]
+    #[tactic(auto, using(crate::proofs::StatementLemmas::passed_over_words_are_looked_for, crate::proofs::StatementLemmas::left_out_words_are_looked_for), unfolding(crate::specs::Statement::statement_of))]
     pub fn of(word: &[u8]) -> Statement
         ensures { result ≡ statement_of word.now }
     {
@@ -113,40 +142,7 @@ impl Statement {
         } else if is_among(word, &NOT_IN_PROFILE) {
             Statement::NotInProfile
         } else {
-            Statement::built(word)
-        }
-    }
-
-    // The statement among those that are read.
-    fn built(word: &[u8]) -> Statement
-        ensures { result ≡ named built word.now }
-    {
-        if spells(word, "dim") {
-            Statement::Dim
-        } else if spells(word, "species") {
-            Statement::Species
-        } else if spells(word, "difc") {
-            Statement::Difc
-        } else if spells(word, "difstep") {
-            Statement::Difstep
-        } else if spells(word, "time_start") {
-            Statement::TimeStart
-        } else if spells(word, "time_stop") {
-            Statement::TimeStop
-        } else if spells(word, "time_step") {
-            Statement::TimeStep
-        } else if spells(word, "max_mol") {
-            Statement::MaxMol
-        } else if spells(word, "random_seed") {
-            Statement::RandomSeed
-        } else if spells(word, "boundaries") {
-            Statement::Boundaries
-        } else if spells(word, "mol") {
-            Statement::Mol
-        } else if spells(word, "cmd") {
-            Statement::Cmd
-        } else {
-            Statement::Unknown
+            named(&BUILT, word)
         }
     }
 }

@@ -1,26 +1,22 @@
 //! What the lines read so far give.
-ghost use Rattle.std.specs.Prelude.{◌≡◌, ◌∷◌, [], None, Some, Err, List, OnOk};
-ghost use Rattle.smol_types.specs.declared.fault.Kind.{Kind as TheKind};
-ghost use Rattle.smol_config.specs.declared.refusal.Refusal.TheVariants.{At};
+ghost use Rattle.std.specs.Prelude.{◌≡◌, ◌≤◌, [], length};
+ghost use Rattle.smol_types.specs.Limits.{most_species};
 ghost use Rattle.smol_config.specs.declared.statement.Statement.TheVariants as statement;
-ghost use Rattle.smol_config.specs.Statement.{statement_of};
-ghost use Rattle.smol_config.specs.Look.{Words, word_at};
 
-use crate::bounds::Bounds;
-use crate::named::Named;
-use crate::refusal::Refusal;
+use crate::species_table::SpeciesTable;
 use crate::statement::Statement;
-use crate::words::word_at;
+use crate::walls::Bounds;
 use crate::{boundaries, cmd, dim, max_mol, mol, motion, random_seed, species, times};
-use smol_text::LineWords;
+use smol_line::{Refusal, word_at};
+use smol_text::StatedLine;
 use smol_types::{Command, Items, Kind, Placing};
 use std::alloc::Global;
 
 /// What the lines read so far give, a quantity each.
-#[derive(Debug, Drop)]
+#[derive(Drop)]
 pub struct Tables {
     pub dims: Option<u8>,
-    pub species: Vec<Named>,
+    pub species: SpeciesTable,
     pub start: Option<i64>,
     pub stop: Option<i64>,
     pub step: Option<i64>,
@@ -32,26 +28,16 @@ pub struct Tables {
 }
 
 impl Tables {
-    ghost use Rattle.smol_config.specs.Dim.{dim_fault};
-    ghost use Rattle.smol_config.specs.Species.{species_fault};
-    ghost use Rattle.smol_config.specs.Motion.{difc_fault, difstep_fault};
-    ghost use Rattle.smol_config.specs.Times.{time_fault, time_step_fault};
-    ghost use Rattle.smol_config.specs.MaxMol.{max_mol_fault};
-    ghost use Rattle.smol_config.specs.RandomSeed.{random_seed_fault};
-    ghost use Rattle.smol_config.specs.Boundaries.{boundaries_fault};
-    ghost use Rattle.smol_config.specs.Mol.{mol_fault};
-    ghost use Rattle.smol_config.specs.Cmd.{cmd_fault};
-    ghost use Rattle.smol_config.specs.Acceptance.{line_fault};
-    ghost use Rattle.smol_config.specs.Tables.{Holds, IsKept};
+    ghost use Rattle.smol_config.specs.Reader.{line_in, statement_in};
+    ghost use Rattle.smol_config.specs.Tables.{Holds, Reads};
 
     /// Nothing given.
     pub fn new(alloc: Global) -> Tables
-        ensures holds { Holds result [] }
-        ensures kept { IsKept result }
+        ensures { Holds result [] }
     {
         Tables {
             dims: None,
-            species: Vec::new(alloc),
+            species: SpeciesTable::new(alloc),
             start: None,
             stop: None,
             step: None,
@@ -63,180 +49,134 @@ impl Tables {
         }
     }
 
-    fn read_dim(&mut self, words: &LineWords<'_>) -> Result<(), Refusal>
-        requires kept { IsKept self.old }
-        requires made { statement_of (word_at words.now 0) ≡ statement.Dim }
-        ensures kept { OnOk result (IsKept self.new) }
-        ensures accepted { OnOk result ((before : List Words) → Holds self.old before → dim_fault before words.now ≡ None) }
-        ensures held { OnOk result ((before : List Words) → Holds self.old before → Holds self.new (words.now ∷ before)) }
-        ensures refused { (kind : TheKind) (before : List Words) → result ≡ Err (At kind) → Holds self.old before → dim_fault before words.now ≡ Some kind }
+    fn read_dim(&mut self, line: &StatedLine<'_>) -> Result<(), Refusal>
+        ensures { Reads (statement_in statement.Dim) line.now self.old self.new result }
     {
-        self.dims = Some(dim::judge(self.dims, words)?);
+        self.dims = Some(dim::judge(self.dims, line)?);
         Ok(())
     }
 
-    fn read_species(&mut self, alloc: Global, words: &LineWords<'_>) -> Result<(), Refusal>
-        requires kept { IsKept self.old }
-        requires made { statement_of (word_at words.now 0) ≡ statement.Species }
-        ensures kept { OnOk result (IsKept self.new) }
-        ensures accepted { OnOk result ((before : List Words) → Holds self.old before → species_fault before words.now ≡ None) }
-        ensures held { OnOk result ((before : List Words) → Holds self.old before → Holds self.new (words.now ∷ before)) }
-        ensures refused { (kind : TheKind) (before : List Words) → result ≡ Err (At kind) → Holds self.old before → species_fault before words.now ≡ Some kind }
+    fn read_species(&mut self, alloc: Global, line: &StatedLine<'_>) -> Result<(), Refusal>
+        ensures { Reads (statement_in statement.Species) line.now self.old self.new result }
     {
-        species::read(alloc, &mut self.species, words)
+        species::read(alloc, &mut self.species, line)
     }
 
-    fn read_difc(&mut self, words: &LineWords<'_>) -> Result<(), Refusal>
-        requires kept { IsKept self.old }
-        requires made { statement_of (word_at words.now 0) ≡ statement.Difc }
-        ensures kept { OnOk result (IsKept self.new) }
-        ensures accepted { OnOk result ((before : List Words) → Holds self.old before → difc_fault before words.now ≡ None) }
-        ensures held { OnOk result ((before : List Words) → Holds self.old before → Holds self.new (words.now ∷ before)) }
-        ensures refused { (kind : TheKind) (before : List Words) → result ≡ Err (At kind) → Holds self.old before → difc_fault before words.now ≡ Some kind }
+    fn read_difc(&mut self, line: &StatedLine<'_>) -> Result<(), Refusal>
+        requires { length self.old.species.names ≤ most_species }
+        ensures { Reads (statement_in statement.Difc) line.now self.old self.new result }
     {
-        let (chosen, motion) = motion::judge_difc(self.species.as_slice(), words)?;
-        motion::set_motion(self.species.as_mut_slice(), chosen, motion);
+        let (chosen, motion) = motion::judge_difc(&self.species.names, line)?;
+        self.species.set_motion(chosen, motion);
         Ok(())
     }
 
-    fn read_difstep(&mut self, words: &LineWords<'_>) -> Result<(), Refusal>
-        requires kept { IsKept self.old }
-        requires made { statement_of (word_at words.now 0) ≡ statement.Difstep }
-        ensures kept { OnOk result (IsKept self.new) }
-        ensures accepted { OnOk result ((before : List Words) → Holds self.old before → difstep_fault before words.now ≡ None) }
-        ensures held { OnOk result ((before : List Words) → Holds self.old before → Holds self.new (words.now ∷ before)) }
-        ensures refused { (kind : TheKind) (before : List Words) → result ≡ Err (At kind) → Holds self.old before → difstep_fault before words.now ≡ Some kind }
+    fn read_difstep(&mut self, line: &StatedLine<'_>) -> Result<(), Refusal>
+        requires { length self.old.species.names ≤ most_species }
+        ensures { Reads (statement_in statement.Difstep) line.now self.old self.new result }
     {
-        let (chosen, motion) = motion::judge_difstep(self.species.as_slice(), words)?;
-        motion::set_motion(self.species.as_mut_slice(), chosen, motion);
+        let (chosen, motion) = motion::judge_difstep(&self.species.names, line)?;
+        self.species.set_motion(chosen, motion);
         Ok(())
     }
 
-    fn read_time_start(&mut self, words: &LineWords<'_>) -> Result<(), Refusal>
-        requires kept { IsKept self.old }
-        requires made { statement_of (word_at words.now 0) ≡ statement.TimeStart }
-        ensures kept { OnOk result (IsKept self.new) }
-        ensures accepted { OnOk result ((before : List Words) → Holds self.old before → time_fault statement.TimeStart before words.now ≡ None) }
-        ensures held { OnOk result ((before : List Words) → Holds self.old before → Holds self.new (words.now ∷ before)) }
-        ensures refused { (kind : TheKind) (before : List Words) → result ≡ Err (At kind) → Holds self.old before → time_fault statement.TimeStart before words.now ≡ Some kind }
+    fn read_time_start(&mut self, line: &StatedLine<'_>) -> Result<(), Refusal>
+        ensures { Reads (statement_in statement.TimeStart) line.now self.old self.new result }
     {
-        self.start = Some(times::judge(self.start, words)?);
+        self.start = Some(times::judge(self.start, line)?);
         Ok(())
     }
 
-    fn read_time_stop(&mut self, words: &LineWords<'_>) -> Result<(), Refusal>
-        requires kept { IsKept self.old }
-        requires made { statement_of (word_at words.now 0) ≡ statement.TimeStop }
-        ensures kept { OnOk result (IsKept self.new) }
-        ensures accepted { OnOk result ((before : List Words) → Holds self.old before → time_fault statement.TimeStop before words.now ≡ None) }
-        ensures held { OnOk result ((before : List Words) → Holds self.old before → Holds self.new (words.now ∷ before)) }
-        ensures refused { (kind : TheKind) (before : List Words) → result ≡ Err (At kind) → Holds self.old before → time_fault statement.TimeStop before words.now ≡ Some kind }
+    fn read_time_stop(&mut self, line: &StatedLine<'_>) -> Result<(), Refusal>
+        ensures { Reads (statement_in statement.TimeStop) line.now self.old self.new result }
     {
-        self.stop = Some(times::judge(self.stop, words)?);
+        self.stop = Some(times::judge(self.stop, line)?);
         Ok(())
     }
 
-    fn read_time_step(&mut self, words: &LineWords<'_>) -> Result<(), Refusal>
-        requires kept { IsKept self.old }
-        requires made { statement_of (word_at words.now 0) ≡ statement.TimeStep }
-        ensures kept { OnOk result (IsKept self.new) }
-        ensures accepted { OnOk result ((before : List Words) → Holds self.old before → time_step_fault before words.now ≡ None) }
-        ensures held { OnOk result ((before : List Words) → Holds self.old before → Holds self.new (words.now ∷ before)) }
-        ensures refused { (kind : TheKind) (before : List Words) → result ≡ Err (At kind) → Holds self.old before → time_step_fault before words.now ≡ Some kind }
+    fn read_time_step(&mut self, line: &StatedLine<'_>) -> Result<(), Refusal>
+        ensures { Reads (statement_in statement.TimeStep) line.now self.old self.new result }
     {
-        self.step = Some(times::judge_step(self.step, words)?);
+        self.step = Some(times::judge_step(self.step, line)?);
         Ok(())
     }
 
-    fn read_max_mol(&mut self, words: &LineWords<'_>) -> Result<(), Refusal>
-        requires kept { IsKept self.old }
-        requires made { statement_of (word_at words.now 0) ≡ statement.MaxMol }
-        ensures kept { OnOk result (IsKept self.new) }
-        ensures accepted { OnOk result ((before : List Words) → Holds self.old before → max_mol_fault before words.now ≡ None) }
-        ensures held { OnOk result ((before : List Words) → Holds self.old before → Holds self.new (words.now ∷ before)) }
-        ensures refused { (kind : TheKind) (before : List Words) → result ≡ Err (At kind) → Holds self.old before → max_mol_fault before words.now ≡ Some kind }
+    fn read_max_mol(&mut self, line: &StatedLine<'_>) -> Result<(), Refusal>
+        ensures { Reads (statement_in statement.MaxMol) line.now self.old self.new result }
     {
-        self.max_mol = Some(max_mol::judge(self.max_mol, words)?);
+        self.max_mol = Some(max_mol::judge(self.max_mol, line)?);
         Ok(())
     }
 
-    fn read_random_seed(&mut self, words: &LineWords<'_>) -> Result<(), Refusal>
-        requires kept { IsKept self.old }
-        requires made { statement_of (word_at words.now 0) ≡ statement.RandomSeed }
-        ensures kept { OnOk result (IsKept self.new) }
-        ensures accepted { OnOk result ((before : List Words) → Holds self.old before → random_seed_fault before words.now ≡ None) }
-        ensures held { OnOk result ((before : List Words) → Holds self.old before → Holds self.new (words.now ∷ before)) }
-        ensures refused { (kind : TheKind) (before : List Words) → result ≡ Err (At kind) → Holds self.old before → random_seed_fault before words.now ≡ Some kind }
+    fn read_random_seed(&mut self, line: &StatedLine<'_>) -> Result<(), Refusal>
+        ensures { Reads (statement_in statement.RandomSeed) line.now self.old self.new result }
     {
-        self.seed = Some(random_seed::judge(self.seed, words)?);
+        self.seed = Some(random_seed::judge(self.seed, line)?);
         Ok(())
     }
 
-    fn read_boundaries(&mut self, words: &LineWords<'_>) -> Result<(), Refusal>
-        requires kept { IsKept self.old }
-        requires made { statement_of (word_at words.now 0) ≡ statement.Boundaries }
-        ensures kept { OnOk result (IsKept self.new) }
-        ensures accepted { OnOk result ((before : List Words) → Holds self.old before → boundaries_fault before words.now ≡ None) }
-        ensures held { OnOk result ((before : List Words) → Holds self.old before → Holds self.new (words.now ∷ before)) }
-        ensures refused { (kind : TheKind) (before : List Words) → result ≡ Err (At kind) → Holds self.old before → boundaries_fault before words.now ≡ Some kind }
+    fn read_boundaries(&mut self, line: &StatedLine<'_>) -> Result<(), Refusal>
+        ensures { Reads (statement_in statement.Boundaries) line.now self.old self.new result }
     {
-        let (axis, given) = boundaries::judge(self.dims, &self.bounds, words)?;
+        let (axis, given) = boundaries::judge(self.dims, &self.bounds, line)?;
         self.bounds[axis as usize] = Some(given);
         Ok(())
     }
 
-    fn read_mol(&mut self, words: &LineWords<'_>) -> Result<(), Refusal>
-        requires kept { IsKept self.old }
-        requires made { statement_of (word_at words.now 0) ≡ statement.Mol }
-        ensures kept { OnOk result (IsKept self.new) }
-        ensures accepted { OnOk result ((before : List Words) → Holds self.old before → mol_fault before words.now ≡ None) }
-        ensures held { OnOk result ((before : List Words) → Holds self.old before → Holds self.new (words.now ∷ before)) }
-        ensures refused { (kind : TheKind) (before : List Words) → result ≡ Err (At kind) → Holds self.old before → mol_fault before words.now ≡ Some kind }
+    fn read_mol(&mut self, line: &StatedLine<'_>) -> Result<(), Refusal>
+        requires { length self.old.species.names ≤ most_species }
+        ensures { Reads (statement_in statement.Mol) line.now self.old self.new result }
     {
-        let species = self.species.as_slice();
-        let placing = mol::judge(self.dims, &self.bounds, species, words)?;
+        let species = &self.species;
+        let placing = mol::judge(self.dims, &self.bounds, &species.names, line)?;
         self.placings.push(placing)?;
         Ok(())
     }
 
-    fn read_cmd(&mut self, words: &LineWords<'_>) -> Result<(), Refusal>
-        requires kept { IsKept self.old }
-        requires made { statement_of (word_at words.now 0) ≡ statement.Cmd }
-        ensures kept { OnOk result (IsKept self.new) }
-        ensures accepted { OnOk result ((before : List Words) → Holds self.old before → cmd_fault before words.now ≡ None) }
-        ensures held { OnOk result ((before : List Words) → Holds self.old before → Holds self.new (words.now ∷ before)) }
-        ensures refused { (kind : TheKind) (before : List Words) → result ≡ Err (At kind) → Holds self.old before → cmd_fault before words.now ≡ Some kind }
+    fn read_cmd(&mut self, alloc: Global, line: &StatedLine<'_>) -> Result<(), Refusal>
+        ensures { Reads (statement_in statement.Cmd) line.now self.old self.new result }
     {
         let commands = self.commands.as_slice();
-        let command = cmd::judge(self.dims, &self.bounds, commands, words)?;
+        let command = cmd::judge(alloc, self.dims, &self.bounds, commands, line)?;
         self.commands.push(command)?;
         Ok(())
     }
 
-    /// Reads a line behind those read so far.
-    pub fn read(&mut self, alloc: Global, words: &LineWords<'_>) -> Result<(), Refusal>
-        requires kept { IsKept self.old }
-        ensures kept { OnOk result (IsKept self.new) }
-        ensures accepted { OnOk result ((before : List Words) → Holds self.old before → line_fault before words.now ≡ None) }
-        ensures held { OnOk result ((before : List Words) → Holds self.old before → Holds self.new (words.now ∷ before)) }
-        ensures refused { (kind : TheKind) (before : List Words) → result ≡ Err (At kind) → Holds self.old before → line_fault before words.now ≡ Some kind }
+    // Reads a line that makes this statement.
+    fn read_statement(
+        &mut self,
+        alloc: Global,
+        statement: Statement,
+        line: &StatedLine<'_>,
+    ) -> Result<(), Refusal>
+        requires { length self.old.species.names ≤ most_species }
+        ensures { Reads (statement_in statement) line.now self.old self.new result }
     {
-        match Statement::of(word_at(words, 0)) {
+        match statement {
             Statement::PassedOver => Ok(()),
             Statement::NotInProfile => Err(Refusal::At(Kind::NotInProfile)),
             Statement::Unknown => Err(Refusal::At(Kind::UnknownStatement)),
-            Statement::Dim => self.read_dim(words),
-            Statement::Species => self.read_species(alloc, words),
-            Statement::Difc => self.read_difc(words),
-            Statement::Difstep => self.read_difstep(words),
-            Statement::TimeStart => self.read_time_start(words),
-            Statement::TimeStop => self.read_time_stop(words),
-            Statement::TimeStep => self.read_time_step(words),
-            Statement::MaxMol => self.read_max_mol(words),
-            Statement::RandomSeed => self.read_random_seed(words),
-            Statement::Boundaries => self.read_boundaries(words),
-            Statement::Mol => self.read_mol(words),
-            Statement::Cmd => self.read_cmd(words),
+            Statement::Dim => self.read_dim(line),
+            Statement::Species => self.read_species(alloc, line),
+            Statement::Difc => self.read_difc(line),
+            Statement::Difstep => self.read_difstep(line),
+            Statement::TimeStart => self.read_time_start(line),
+            Statement::TimeStop => self.read_time_stop(line),
+            Statement::TimeStep => self.read_time_step(line),
+            Statement::MaxMol => self.read_max_mol(line),
+            Statement::RandomSeed => self.read_random_seed(line),
+            Statement::Boundaries => self.read_boundaries(line),
+            Statement::Mol => self.read_mol(line),
+            Statement::Cmd => self.read_cmd(alloc, line),
         }
+    }
+
+    /// Reads a line behind those read so far.
+    #[tactic(auto, unfolding(crate::specs::Reader::line_in))]
+    pub fn read(&mut self, alloc: Global, line: &StatedLine<'_>) -> Result<(), Refusal>
+        requires { length self.old.species.names ≤ most_species }
+        ensures { Reads line_in line.now self.old self.new result }
+    {
+        self.read_statement(alloc, Statement::of(word_at(line, 0)), line)
     }
 }

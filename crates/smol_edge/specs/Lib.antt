@@ -8,3 +8,4 @@ pub mod MemFile
 pub mod MemOutlets
 pub mod OutletBytes
 pub mod RealOutlets
+pub mod Meet

@@ -1,6 +1,6 @@
 -- Where a molecule is on one axis: between two even numbers, at whose middle a count of ticks puts it.
-use Rattle.std.proofs.Common.{◌≡◌, ℕ, zero, suc, ◌+◌, ◌*◌, ◌<◌, ◌≤◌, Bool, true, false, ◌⊎◌, inl, inr, ⊎_elim, cond, refl, sym, ◌∙◌, ap, subst, arith, ℤ, pos, negsuc, neg_ℤ, ◌+ℤ◌, ◌-ℤ◌, ◌*ℤ◌, ◌≤ℤ◌, ◌<ℤ◌, int_lt, unsigned_abs}
-use Rattle.std.proofs.lemmas.Bool.{cases_Bool, cond_both, lt-ltb}
+use Rattle.std.proofs.Common.{◌≡◌, ℕ, zero, suc, ◌+◌, ◌*◌, ◌/◌, ◌%◌, ◌<◌, ◌≤◌, Bool, true, false, ◌⊎◌, inl, inr, ⊎_elim, cond, refl, sym, ◌∙◌, ap, subst, arith, ℤ, pos, negsuc, neg_ℤ, ◌+ℤ◌, ◌-ℤ◌, ◌*ℤ◌, ◌≤ℤ◌, ◌<ℤ◌, int_lt, unsigned_abs}
+use Rattle.std.proofs.lemmas.Bool.{cases_Bool, lt-ltb}
 use Rattle.std.proofs.Math.IntN.{*ℤ_comm}
 use Rattle.std.proofs.lemmas.Int.{ints, by_lt_z}
 use Rattle.smol_geom.specs.Fraction.{Fraction}
@@ -26,6 +26,15 @@ pub record IsCell (low high c : ℤ) : Type 0 where
 -- the number is twice another
 abbrev pub IsDouble : ℤ → Type 0
 IsDouble z = (half : ℤ) × (z ≡ half +ℤ half)
+
+-- an even number is twice another, and an odd one is one more
+pub even_double : (z : ℤ) → unsigned_abs z % 2 ≡ 0 → IsDouble z
+even_double (pos n) even = (pos (n / 2), omega (arith, ints, even))
+even_double (negsuc n) even = (neg_ℤ (pos ((n + 1) / 2)), omega (arith, ints, even))
+
+pub odd_half : (z : ℤ) → unsigned_abs z % 2 ≡ 1 → (half : ℤ) × (z ≡ half +ℤ half +ℤ pos 1)
+odd_half (pos n) odd = (pos (n / 2), omega (arith, ints, odd))
+odd_half (negsuc n) odd = (neg_ℤ (pos ((n + 2) / 2)), omega (arith, ints, odd))
 
 -- which way a number points
 pub direction : (w : ℤ) → ((int_lt (pos 0) w ≡ true) × (w ≡ pos (unsigned_abs w))) ⊎ ((int_lt (pos 0) w ≡ false) × (w ≡ neg_ℤ (pos (unsigned_abs w))))

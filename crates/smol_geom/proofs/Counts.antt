@@ -1,12 +1,12 @@
 -- The moments that are left, counted on each axis.
-use Rattle.std.proofs.Common.{◌≡◌, ℕ, zero, suc, ◌+◌, ◌*◌, ◌<◌, ◌≤◌, ◌%◌, Bool, true, false, ◌==◌, ◌⊎◌, inl, inr, ⊎_elim, List, [], ◌∷◌, cond, refl, sym, ◌∙◌, ap, subst, arith, ℤ, pos, ◌+ℤ◌, ◌-ℤ◌, int_lt, unsigned_abs}
-use Rattle.std.proofs.lemmas.Bool.{cases_Bool, cases_eq, cases_lt, both_ways, cond_both, eq-eqb, eqb-true, ne_eqb}
+use Rattle.std.proofs.Common.{◌≡◌, ℕ, ◌+◌, ◌*◌, ◌<◌, ◌≤◌, ◌%◌, true, false, ◌==◌, ◌⊎◌, inl, inr, ⊎_elim, List, ◌∷◌, cond, refl, sym, ◌∙◌, ap, arith, ℤ, pos, ◌+ℤ◌, ◌-ℤ◌, int_lt, unsigned_abs}
+use Rattle.std.proofs.lemmas.Bool.{cases_Bool, cases_eq, cases_lt, eq-eqb, eqb-true, ne_eqb}
 use Rattle.std.proofs.lemmas.Int.{ints}
 use Rattle.std.proofs.Math.Nat.{mul-le-mul_right, mul-le-mul_left}
 use Rattle.smol_geom.specs.declared.place.Place.{Place}
 use Rattle.smol_geom.specs.declared.place.Step3.{Step3}
 use Rattle.smol_geom.specs.declared.moment.Moment.{Moment}
-use Rattle.smol_geom.specs.Axes.{on_axis, IsOdd}
+use Rattle.smol_geom.specs.Axes.{on_axis}
 use Rattle.smol_geom.specs.Moments.{Has, IsInOrder, IsMoment}
 use Rattle.smol_geom.specs.Moments.{ticks, coordinate_after, is_even, is_before, moment_of, moments}
 use Rattle.smol_geom.proofs.Order.{Before, before_is}
@@ -40,7 +40,7 @@ module _ (from : Place) (by : Step3) (odd : (j : ℕ) → j < 3 → unsigned_abs
     pub made : (j : ℕ) → j < 3 → 2 * c j ≤ ticks by j
 
   -- a moment is at an odd tick
-  odd_num : (m : Moment) → IsMoment from by m → m.num % 2 ≡ 1
+  pub odd_num : (m : Moment) → IsMoment from by m → m.num % 2 ≡ 1
   odd_num m h = go (cases_Bool (int_lt (pos 0) (on_axis by.0 m.axis)))
     where
       go : (int_lt (pos 0) (on_axis by.0 m.axis) ≡ true) ⊎ (int_lt (pos 0) (on_axis by.0 m.axis) ≡ false) → m.num % 2 ≡ 1

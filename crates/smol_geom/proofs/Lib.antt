@@ -1,6 +1,7 @@
 pub mod Cells
 pub mod Counts
 pub mod EachAxis
+pub mod Evens
 pub mod Folds
 pub mod Fractions
 pub mod Integers

@@ -1,5 +1,5 @@
 -- Elements of lists, by index and by recursion.
-use Rattle.std.proofs.Common.{◌≡◌, ℕ, zero, suc, ◌<◌, ◌⊎◌, inl, inr, List, [], ◌∷◌, length, get_or, subst, sym, arith}
+use Rattle.std.proofs.Common.{◌≡◌, ℕ, zero, suc, ◌<◌, inl, inr, List, [], ◌∷◌, length, get_or, subst, arith}
 use Rattle.std.specs.Prelude.{All, Contains}
 use Rattle.smol_geom.specs.Moments.{Has}
 

@@ -1,6 +1,6 @@
--- The list of moments rises, and has each moment of the move and no other.
-use Rattle.std.proofs.Common.{◌≡◌, ℕ, zero, suc, ◌+◌, ◌*◌, ◌<◌, ◌≤◌, Bool, true, false, ◌⊎◌, inl, inr, ⊎_elim, List, [], ◌∷◌, cond, refl, sym, ◌∙◌, ap, subst, arith}
-use Rattle.std.proofs.lemmas.Bool.{cases_Bool, cases_eq, cases_order, both_ways, cond_both, and_parts, and_from, lt-ltb, ltb-true}
+-- The list of moments is in order, and has each moment of the move and no other.
+use Rattle.std.proofs.Common.{◌≡◌, ℕ, zero, suc, ◌+◌, ◌*◌, ◌<◌, ◌≤◌, true, false, ◌⊎◌, inl, inr, ⊎_elim, List, [], ◌∷◌, cond, refl, sym, ◌∙◌, ap, subst, arith}
+use Rattle.std.proofs.lemmas.Bool.{cases_Bool, cases_eq, both_ways, cond_both, and_parts, and_from, lt-ltb, ltb-true}
 use Rattle.std.proofs.Math.Nat.{mul-le-mul_right}
 use Rattle.smol_geom.specs.declared.place.Place.{Place}
 use Rattle.smol_geom.specs.declared.place.Step3.{Step3}
@@ -9,7 +9,7 @@ use Rattle.smol_geom.specs.Moments.{Has, IsInOrder, IsMoment}
 use Rattle.smol_geom.specs.Moments.{ticks, is_before, is_even_at, moment_of, with_moment, with_row, moments}
 use Rattle.smol_geom.proofs.Order.{before_trans, before_either}
 
--- what a with_moment adds
+-- what a list has with a moment more
 pub has_with_moment : (m : Moment) (ms : List Moment) (n : Moment) → Has (with_moment m ms) n → (m ≡ n) ⊎ Has ms n
 unfolding with_moment
 has_with_moment m [] n h = h

@@ -1,11 +1,12 @@
 -- The moments of a move: where a coordinate is an even whole number strictly between the move's two ends.
-use Rattle.std.specs.Prelude.{ℕ, zero, suc, ◌≡◌, ◌<◌, ◌*◌, ◌%◌, ◌⊎◌, Bool, true, ◌&&◌, ◌||◌, ◌==◌, nat_lt, List, [], ◌∷◌, ℤ, pos, ◌+ℤ◌, ◌-ℤ◌, int_lt, unsigned_abs, cond, filter}
+use Rattle.std.specs.Prelude.{ℕ, zero, suc, ◌≡◌, ◌<◌, ◌*◌, ◌%◌, ◌⊎◌, Bool, true, ◌&&◌, ◌||◌, ◌==◌, nat_lt, List, [], ◌∷◌, ℤ, pos, ◌+ℤ◌, ◌-ℤ◌, int_lt, unsigned_abs, cond, filter, Contains, count_by}
 use Rattle.smol_geom.specs.declared.place.Place.{Place}
 use Rattle.smol_geom.specs.declared.place.Step3.{Step3}
 use Rattle.smol_geom.specs.declared.moment.Moment.{Moment}
 use Rattle.smol_geom.specs.Axes.{on_axis}
 use Rattle.smol_geom.specs.Fraction.{Fraction, IsNumber, whole, ◌<ℚ◌, ◌≈ℚ◌}
 use Rattle.smol_geom.specs.Line.{move_point}
+use Rattle.smol_geom.specs.Moment.{part_of}
 
 -- how many ticks the move goes on an axis, up or down
 abbrev pub ticks : Step3 → ℕ → ℕ
@@ -85,3 +86,12 @@ pub record IsEvenAt (from : Place) (by : Step3) (axis : ℕ) (t : Fraction) : Ty
   pub unfinished : t <ℚ whole (pos 1)
   pub half : ℤ
   pub even : move_point from.0 by.0 t axis ≈ℚ whole (half +ℤ half)
+
+-- the list has each part of the move at which a coordinate is even, and nothing else, in order; and of an axis it has half as
+-- many as the move goes ticks there
+pub record AreAllMoments (from : Place) (by : Step3) : Type 0 where
+  pub in_order : IsInOrder (moments from by)
+  pub even : (m : Moment) → Contains (moments from by) m → (m.axis < 3) × IsEvenAt from by m.axis (part_of m)
+  pub complete : (axis : ℕ) (t : Fraction) → axis < 3 → IsEvenAt from by axis t
+      → (m : Moment) × Contains (moments from by) m × (m.axis ≡ axis) × (part_of m ≈ℚ t)
+  pub count : (axis : ℕ) → axis < 3 → 2 * count_by (λ (m : Moment). m.axis == axis) (moments from by) ≡ ticks by axis

@@ -3,6 +3,7 @@
 
 mod cuboid;
 mod fold;
+mod law;
 mod line;
 mod moment;
 mod part;
@@ -11,6 +12,7 @@ mod rect;
 
 pub use cuboid::Cuboid;
 pub use fold::{Fold, holds_at};
+pub use law::moments_are_all;
 pub use line::meets;
 pub use moment::{Moment, moment_before};
 pub use place::{Place, Step3, dist2};

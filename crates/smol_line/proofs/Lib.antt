@@ -1,2 +1,4 @@
 pub mod NameLemmas
 pub mod SetLemmas
+pub mod Passing
+pub mod Ranges

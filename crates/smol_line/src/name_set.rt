@@ -63,6 +63,7 @@ impl NameSet {
     pub fn add(&mut self, alloc: Global, name: &str) -> Result<(), AllocError>
         requires new { is_named self.old name.now ≡ false }
         ensures added { OnOk result (self.new ≡ self.old ++ name.now ∷ []) }
+        ensures err { OnErr result (self.new ≡ self.old) }
     {
         let name = String::from_str(alloc, name)?;
         self.names.insert(name)?;

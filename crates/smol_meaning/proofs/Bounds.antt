@@ -60,7 +60,7 @@ pub flat_sheet : (sheet : Sheet) → IsSheet sheet → IsFlat sheet
 flat_sheet (Rectangle rect) is = is.shape
 flat_sheet (Plane axis plane) is = tt
 
-plane_small : (sheet : Sheet) → IsSheet sheet → (unsigned_abs (sheet_plane sheet) ≤ farthest) × (unsigned_abs (sheet_plane sheet) % 2 ≡ 0)
+pub plane_small : (sheet : Sheet) → IsSheet sheet → (unsigned_abs (sheet_plane sheet) ≤ farthest) × (unsigned_abs (sheet_plane sheet) % 2 ≡ 0)
 plane_small (Rectangle rect) is = (at_axis (λ j. unsigned_abs (on_axis rect.low j) ≤ farthest) rect.axis is.shape.axis is.low, is.even)
 plane_small (Plane axis plane) is = (is.size, is.even)
 
@@ -127,7 +127,7 @@ module _ (dims : ℕ) (from : Place) (by : Step3) (move : IsMove dims from by) w
   way_small j l = at_axis (λ k. unsigned_abs (on_axis by.0 k) ≤ 2 ^ 34) j l move.step_size
 
   -- a moment's axis is in use
-  used : (m : Moment) → IsMoment from by m → dims ≤ m.axis → ⊥
+  pub used : (m : Moment) → IsMoment from by m → dims ≤ m.axis → ⊥
   used m is beyond =
       let still : on_axis by.0 m.axis ≡ pos 0 = at_axis (λ k. dims ≤ k → on_axis by.0 k ≡ pos 0) m.axis is.axis move.unused beyond in
       let none : ticks by m.axis ≡ 0 = ap unsigned_abs still in

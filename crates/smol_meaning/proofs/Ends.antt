@@ -108,18 +108,27 @@ grow : (dims size most : ℕ) (x y z x' y' z' : ℤ) (by : Step3) → dims ≤ 3
     → AreCoordinates size dims (x ∷ y ∷ z ∷ []) → AreCoordinates (size + most) dims (x' ∷ y' ∷ z' ∷ [])
 grow zero size most x y z x' y' z' by few far step end are = (end.unused.0 (omega arith) ∙ are.0, (end.unused.1 (omega arith) ∙ are.1.0, (end.unused.2 (omega arith) ∙ are.1.1.0, tt)))
 grow (suc zero) size most x y z x' y' z' by few far step end are = (
-  end.odd.0, coordinate_grows x x' (on_axis by.0 0) size most end.size.0 are.1 far step.0,
+  end.odd.0,
+  coordinate_grows x x' (on_axis by.0 0) size most end.size.0 are.1 far step.0,
   (end.unused.1 (omega arith) ∙ are.2.0, (end.unused.2 (omega arith) ∙ are.2.1.0, tt)),
 )
 grow (suc (suc zero)) size most x y z x' y' z' by few far step end are = (
-  end.odd.0, coordinate_grows x x' (on_axis by.0 0) size most end.size.0 are.1 far step.0,
-  (end.odd.1, coordinate_grows y y' (on_axis by.0 1) size most end.size.1 are.2.1 far step.1,
-    (end.unused.2 (omega arith) ∙ are.2.2.0, tt)),
+  end.odd.0,
+  coordinate_grows x x' (on_axis by.0 0) size most end.size.0 are.1 far step.0,
+  (
+    end.odd.1,
+    coordinate_grows y y' (on_axis by.0 1) size most end.size.1 are.2.1 far step.1,
+    (end.unused.2 (omega arith) ∙ are.2.2.0, tt),
+  ),
 )
 grow (suc (suc (suc zero))) size most x y z x' y' z' by few far step end are = (
-  end.odd.0, coordinate_grows x x' (on_axis by.0 0) size most end.size.0 are.1 far step.0,
-  (end.odd.1, coordinate_grows y y' (on_axis by.0 1) size most end.size.1 are.2.1 far step.1,
-    (end.odd.2, coordinate_grows z z' (on_axis by.0 2) size most end.size.2 are.2.2.1 far step.2, tt)),
+  end.odd.0,
+  coordinate_grows x x' (on_axis by.0 0) size most end.size.0 are.1 far step.0,
+  (
+    end.odd.1,
+    coordinate_grows y y' (on_axis by.0 1) size most end.size.1 are.2.1 far step.1,
+    (end.odd.2, coordinate_grows z z' (on_axis by.0 2) size most end.size.2 are.2.2.1 far step.2, tt),
+  ),
 )
 grow (suc (suc (suc (suc dims)))) size most x y z x' y' z' by few far step end are = absurd (omega arith)
 

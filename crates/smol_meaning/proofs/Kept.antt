@@ -1,7 +1,10 @@
 -- What of a list of molecules stays true when some of them leave it.
-use Rattle.std.proofs.Common.{◌≡◌, ℕ, zero, suc, ◌+◌, ◌<◌, ◌≤◌, Bool, true, false, List, [], ◌∷◌, ◌++◌, length, All, Option, Some, None, filter, slice_get, cond, refl, arith}
+use Rattle.std.proofs.Common.{◌≡◌, ℕ, zero, suc, ◌+◌, ◌<◌, ◌≤◌, Bool, true, false, List, [], ◌∷◌, ◌++◌, length, All, Option, Some, None, filter, slice_get, get_or, cond, sym, ap, ◌∙◌, ⊎_elim, refl, arith}
 use Rattle.std.specs.Prelude.{IfSome}
 use Rattle.std.specs.List.{cons_option, filter_map, items_where_true}
+use Rattle.std.specs.List.Sorted.{IsNonDecreasingBy}
+use Rattle.std.proofs.lemmas.Bool.{cases_lt}
+use Rattle.std.proofs.lemmas.Option.{get_or_from_slice_get, slice_get_within}
 use Rattle.std.proofs.lemmas.List.Elements.{All-cons, All-head, All-nil, All-tail}
 use Rattle.smol_types.specs.declared.state.Mol.{Mol}
 use Rattle.smol_types.specs.State.{Ascend}
@@ -74,3 +77,43 @@ Ascend-filter_map made keeps least next (mol ∷ mols) ascend =
     first None same more = Ascend-from least (mol.serial + 1) next (filter_map made mols) (omega (arith, ascend.0)) more
     first (Some after) same more =
         (omega (arith, ascend.0, same), Ascend-from (after.serial + 1) (mol.serial + 1) next (filter_map made mols) (omega (arith, same)) more)
+
+Ascend-least : (least next j : ℕ) (mols : List Mol) (d : Mol) → Ascend least next mols → j < length mols → least ≤ (get_or mols j d).serial
+Ascend-least least next j [] d ascend within = absurd (omega arith)
+Ascend-least least next zero (mol ∷ mols) d ascend within = ascend.0
+Ascend-least least next (suc j) (mol ∷ mols) d ascend within =
+    let more = Ascend-least (mol.serial + 1) next j mols d ascend.1 (omega arith) in omega (arith, more, ascend.0)
+
+-- an earlier molecule has the lower serial
+pub Ascend-below : (least next i j : ℕ) (mols : List Mol) (d : Mol) → Ascend least next mols → i < j → j < length mols → (get_or mols i d).serial < (get_or mols j d).serial
+Ascend-below least next i j [] d ascend less within = absurd (omega arith)
+Ascend-below least next i zero (mol ∷ mols) d ascend less within = absurd (omega arith)
+Ascend-below least next zero (suc j) (mol ∷ mols) d ascend less within =
+    let more = Ascend-least (mol.serial + 1) next j mols d ascend.1 (omega arith) in omega (arith, more)
+Ascend-below least next (suc i) (suc j) (mol ∷ mols) d ascend less within =
+    Ascend-below (mol.serial + 1) next i j mols d ascend.1 (omega arith) (omega arith)
+
+Ascend-same : (least next i j : ℕ) (mols : List Mol) (d : Mol) → Ascend least next mols → i < length mols → j < length mols
+    → (get_or mols i d).serial ≡ (get_or mols j d).serial → i ≡ j
+Ascend-same least next i j mols d ascend in_i in_j same =
+    ⊎_elim
+    (λ (less : i < j). absurd (omega (arith, same, Ascend-below least next i j mols d ascend less in_j)))
+    (λ (rest : j ≤ i). ⊎_elim
+    (λ (less : j < i). absurd (omega (arith, same, Ascend-below least next j i mols d ascend less in_i)))
+    (λ (not_less : i ≤ j). let e : i ≡ j = omega arith in e)
+    (cases_lt j i))
+    (cases_lt i j)
+
+-- a serial is that of one molecule alone
+pub Ascend-one : (least next i j : ℕ) (mols : List Mol) (a b : Mol) → Ascend least next mols → slice_get mols i ≡ Some a → slice_get mols j ≡ Some b → a.serial ≡ b.serial → i ≡ j
+Ascend-one least next i j mols a b ascend at_i at_j same =
+    Ascend-same least next i j mols a ascend (slice_get_within mols i a at_i) (slice_get_within mols j b at_j)
+    (ap (λ (mol : Mol). mol.serial) (get_or_from_slice_get mols i a a at_i) ∙ same ∙ ap (λ (mol : Mol). mol.serial) (sym (get_or_from_slice_get mols j b a at_j)))
+
+-- serials don't fall
+pub Ascend-non_decreasing : (least next : ℕ) (mols : List Mol) → Ascend least next mols → IsNonDecreasingBy (λ (mol : Mol). mol.serial) mols
+Ascend-non_decreasing least next mols ascend = λ i j d up within.
+    ⊎_elim
+    (λ (less : i < j). let below = Ascend-below least next i j mols d ascend less within in omega (arith, below))
+    (λ (rest : j ≤ i). let same : i ≡ j = omega arith in let e = ap (λ (n : ℕ). (get_or mols n d).serial) same in omega (arith, e))
+    (cases_lt i j)

@@ -7,6 +7,7 @@ pub mod Nearness
 pub mod Bounds
 pub mod Seeing
 pub mod Ends
+pub mod Confined
 pub mod Kept
 pub mod Diffusing
 pub mod Meeting
@@ -16,3 +17,5 @@ pub mod Opening
 pub mod Places
 pub mod Sights
 pub mod Performing
+pub mod Going
+pub mod Courses

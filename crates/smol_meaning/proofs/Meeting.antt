@@ -6,6 +6,7 @@ use Rattle.smol_types.specs.declared.reaction.Reaction.{Reaction}
 use Rattle.smol_types.specs.declared.state.Mol.{Mol}
 use Rattle.smol_meaning.specs.Encounters.{Encounter, encounters_from, encounters_of, encounters_of_two, encounters_with, may_react}
 use Rattle.smol_meaning.specs.Events.{is_free}
+use Rattle.smol_meaning.specs.Meeting.{IsEncounter}
 
 -- the encounter of two molecules at their ranks
 abbrev pub encounter : ℕ → Mol → ℕ → Mol → ℕ → Encounter
@@ -67,15 +68,7 @@ module _ (P : Encounter → Type 0) (draft : Draft) (seed k : ℕ) where
           (subst (λ n. P (encounter (rank + 0) a n b r)) at_b (each 0 (suc i) r a b refl is (omega arith) free free_b within)))
       first false free = All-nil P
 
--- two free molecules of the list at their ranks, the first before the second, and a reaction that there is
-pub record IsEncounter (draft : Draft) (seed k : ℕ) (mols : List Mol) (e : Encounter) : Type 0 where
-  pub first : slice_get mols e.rank_a ≡ Some e.a
-  pub second : slice_get mols e.rank_b ≡ Some e.b
-  pub apart : e.rank_a < e.rank_b
-  pub first_free : is_free draft seed k e.a ≡ true
-  pub second_free : is_free draft seed k e.b ≡ true
-  pub reaction : e.reaction < length draft.reactions
-
+-- each encounter of a step is one of two free molecules
 pub encounters_are : (draft : Draft) (seed k : ℕ) (mols : List Mol) → All (IsEncounter draft seed k mols) (encounters_of draft seed k mols)
 unfolding encounters_of
 encounters_are draft seed k mols =

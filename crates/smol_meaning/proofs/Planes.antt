@@ -1,6 +1,6 @@
 -- Where a plate is met, its plane is the true coordinate.
 use Rattle.std.proofs.Common.{◌≡◌, ℕ, ◌+◌, ◌*◌, ◌<◌, ◌≤◌, Bool, true, ◌==◌, refl, sym, ◌∙◌, ap, subst, arith, ℤ, pos, ◌+ℤ◌, ◌*ℤ◌, ◌≤ℤ◌}
-use Rattle.std.proofs.lemmas.Bool.{and_parts, eqb-true}
+use Rattle.std.proofs.lemmas.Bool.{and_from, and_parts, eq-eqb, eqb-true}
 use Rattle.std.proofs.lemmas.Int.{ints}
 use Rattle.smol_geom.specs.declared.place.Place.{Place}
 use Rattle.smol_geom.specs.declared.place.Step3.{Step3}
@@ -20,7 +20,7 @@ use Rattle.smol_geom.proofs.Folds.{folded_point}
 use Rattle.smol_geom.proofs.Integers.{sums, mul_le_ℤ, cancel_mul_ℤ}
 use Rattle.smol_geom.proofs.Ways.{above_low, below_high, low_products, high_products}
 use Rattle.smol_meaning.specs.Plates.{Sheet, Rectangle, Plane, is_on, is_between, is_in_rect, is_met, plane_at, sheet_axis, sheet_plane}
-use Rattle.smol_meaning.proofs.Responses.{holds_is, between_is}
+use Rattle.smol_meaning.proofs.Responses.{holds_is, between_is, between_from}
 
 -- the folded start and the folded way on an axis
 abbrev pub start_on : Fold → Place → ℕ → ℤ
@@ -66,6 +66,18 @@ module _ (from : Place) (by : Step3) (f : Fold) (m : Moment) where
           subst (λ x. whole low ≤ℚ x) (point_is m.axis) (above_low low (start_on f from m.axis) (way_on f by m.axis) (part_of m) (omega (arith, sums, from_low, exact))),
           subst (λ x. x ≤ℚ whole high) (point_is m.axis) (below_high high (start_on f from m.axis) (way_on f by m.axis) (part_of m) (omega (arith, sums, to_high, exact))),
         )
+
+    same_plane : (a b : ℤ) → a ≡ b → (a ≤ℤ b) × (b ≤ℤ a)
+    same_plane a b e = (omega (arith, ints, e), omega (arith, ints, e))
+
+    -- a wall is met where it lies across the axis of the moment at the plane of the moment
+    pub plane_met : (axis : ℕ) (own : ℤ) → axis ≡ m.axis → own ≡ plane_at from by f m → is_met from by f m (Plane axis own) ≡ true
+    plane_met axis own axes e =
+        and_from (axis == m.axis) (is_between own own (true_point f from by (part_of m) axis)) (eq-eqb axis m.axis axes)
+        (subst (λ j. is_between own own (true_point f from by (part_of m) j) ≡ true) (sym axes)
+        (let orders = same_plane own (plane_at from by f m) e in
+        let ends = between_plane own own orders.0 orders.1 in
+        between_from own own (true_point f from by (part_of m) m.axis) ends.0 ends.1))
 
     pub met_plane : (sheet : Sheet) → IsFlat sheet → is_met from by f m sheet ≡ true
         → (m.axis ≡ sheet_axis sheet) × (plane_at from by f m ≡ sheet_plane sheet)

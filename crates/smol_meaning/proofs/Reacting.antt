@@ -25,11 +25,12 @@ use Rattle.smol_meaning.specs.Births.{IsEvent}
 use Rattle.smol_meaning.specs.Chance.{axis_drawn, first_order_word, pair_stream}
 use Rattle.smol_meaning.specs.Encounters.{Encounter, encounters_from, encounters_of, encounters_with, event_of_two, pair_of, reacting, start_of_two}
 use Rattle.smol_meaning.specs.Events.{event_of_one, is_free, lone_event, lone_events, lone_reaction, reaction_drawn}
+use Rattle.smol_meaning.specs.Meeting.{IsEncounter}
 use Rattle.smol_meaning.specs.Motion.{difstep_of}
 use Rattle.smol_meaning.specs.Placed.{IsPlaced, StandsWithin}
 use Rattle.smol_meaning.specs.Step.{events_of, reactions_of_two}
 use Rattle.smol_meaning.proofs.Kept.{All-filter_map, All-picked}
-use Rattle.smol_meaning.proofs.Meeting.{IsEncounter, encounters_are, with_all}
+use Rattle.smol_meaning.proofs.Meeting.{encounters_are, with_all}
 
 -- how many pairs fire, where these molecules are taken at first
 abbrev fired : (ℕ → Bool) → List Pair → ℕ

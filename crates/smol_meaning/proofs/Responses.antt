@@ -26,7 +26,7 @@ at_most_from a b h = ⊎_elim (λ e. e) (λ e. let no = le-false a b e in absurd
 at_most_is : (a b : ℤ) → int_le a b ≡ true → a ≤ℤ b
 at_most_is a b e = let yes = le-true a b e in omega (arith, ints)
 
-between_from : (low high : ℤ) (x : Fraction) → whole low ≤ℚ x → x ≤ℚ whole high → is_between low high x ≡ true
+pub between_from : (low high : ℤ) (x : Fraction) → whole low ≤ℚ x → x ≤ℚ whole high → is_between low high x ≡ true
 between_from low high x l h = and_from _ _ (at_most_from _ _ l) (at_most_from _ _ h)
 
 pub between_is : (low high : ℤ) (x : Fraction) → is_between low high x ≡ true → (whole low ≤ℚ x) × (x ≤ℚ whole high)
@@ -96,13 +96,13 @@ module _ (from : Place) (by : Step3) (f : Fold) (m : Moment) where
       first (Jump by up) = refl
       first Pass = refl
 
-  -- where no response of a plate that is met translates, what decides doesn't
-  pub deciding_quiet : (plates : List Plate) → ((p : Plate) → Has plates p → is_met from by f m p.sheet ≡ true → StaysPut (response_of p (goes_up by f m.axis)))
+  -- where no response of a plate that is met moves a molecule elsewhere, what decides doesn't
+  pub deciding_put : (plates : List Plate) → ((p : Plate) → Has plates p → is_met from by f m p.sheet ≡ true → StaysPut (response_of p (goes_up by f m.axis)))
       → StaysPut (deciding (responses_met plates from by f m))
   unfolding deciding responses_met
-  deciding_quiet [] quiet = tt
-  deciding_quiet (p ∷ plates) quiet =
-      let later = deciding_quiet plates (λ q h met. quiet q (inr h) met) in
+  deciding_put [] quiet = tt
+  deciding_put (p ∷ plates) quiet =
+      let later = deciding_put plates (λ q h met. quiet q (inr h) met) in
       cond_both (is_met from by f m p.sheet) (response_of p (goes_up by f m.axis) ∷ responses_met plates from by f m) (responses_met plates from by f m) (λ acts. StaysPut (deciding acts))
       (λ e. cond_both _ (response_of p (goes_up by f m.axis)) (deciding (responses_met plates from by f m)) StaysPut (λ l. quiet p (inl refl) e) (λ l. later))
       (λ e. later)

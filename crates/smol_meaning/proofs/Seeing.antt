@@ -36,7 +36,7 @@ all_got P xs i all = go (slice_get_cases xs i).1
     go (inr h) = rw h.1 tt
 
 -- and of the one that is found
-all_found : {X : Type 0} → (P : X → Type 0) (test : X → Bool) (xs : List X) → All P xs → IfSome (find test xs) P
+pub all_found : {X : Type 0} → (P : X → Type 0) (test : X → Bool) (xs : List X) → All P xs → IfSome (find test xs) P
 all_found P test [] all = tt
 all_found P test (x ∷ xs) all =
     cond_both (test x) (Some x) (find test xs) (λ o. IfSome o P) (λ e. all 0 x (omega arith)) (λ e. all_found P test xs (λ k d l. all (suc k) d (omega arith)))
@@ -145,7 +145,7 @@ wall_jump_fits dims wall up (Some other) few this there =
     wall_jump_on dims wall.axis wall.plane other.plane (omega (arith, this.across, few)) this.across this.even there.even there.size
 
 module _ (draft : Draft) (species : ℕ) (sound : IsSound draft) where
-  rect_fits : (panel : Panel) → IsPanel draft.dims (length draft.surfaces) draft.panels panel → IsPanelRect panel.rect
+  pub rect_fits : (panel : Panel) → IsPanel draft.dims (length draft.surfaces) draft.panels panel → IsPanelRect panel.rect
   rect_fits panel is =
       record {
         shape = is.rect;

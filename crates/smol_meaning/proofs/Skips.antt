@@ -35,7 +35,7 @@ has_filtered p (m ∷ ms) n h = ⊎_elim
     further : p m ≡ false → Has (filter p ms) n → (Has (filter p ms) n → Has ms n × (p n ≡ true)) → Has (m ∷ ms) n × (p n ≡ true)
     further e there more = let r = more there in (inr r.0, r.1)
 
--- and the other way round
+-- and what passes is in the filtered list
 pub filtered_has : (p : Moment → Bool) (ms : List Moment) (n : Moment) → Has ms n → p n ≡ true → Has (filter p ms) n
 filtered_has p [] n h e = absurd h
 filtered_has p (m ∷ ms) n (inl same) e =
@@ -45,7 +45,7 @@ filtered_has p (m ∷ ms) n (inr there) e =
     (λ is. inr (filtered_has p ms n there e))
     (λ is. filtered_has p ms n there e)
 
--- a filter leaves a rising list rising
+-- a filter leaves a list in order
 pub filter_rises : (p : Moment → Bool) (ms : List Moment) → IsInOrder ms → IsInOrder (filter p ms)
 filter_rises p [] up = tt
 filter_rises p (m ∷ ms) up =
@@ -88,7 +88,7 @@ module _ (plates : List Plate) (from : Place) (by : Step3) (f : Fold) where
   abbrev pub Keeps : Moment → Type 0
   Keeps m = after_moment plates from by (Goes f) m ≡ Goes f
 
-  -- no plate is met at the moment
+  -- no plate responds at the moment
   abbrev pub IsFree : Moment → Type 0
   IsFree m = responses_met plates from by f m ≡ []
 

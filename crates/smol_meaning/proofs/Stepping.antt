@@ -24,7 +24,7 @@ use Rattle.smol_meaning.specs.declared.way.Travelled.{Travelled}
 use Rattle.smol_meaning.specs.declared.way.Travelled.TheVariants.{At, Absorbed}
 use Rattle.smol_meaning.specs.Births.{IsBirth, IsEvent}
 use Rattle.smol_meaning.specs.Events.{birth_move, births_in, births_of, births_of_event, born, placement_of, products_of}
-use Rattle.smol_meaning.specs.Motion.{Move, all_diffused, arrived, diffusion, end_of_move}
+use Rattle.smol_meaning.specs.Motion.{Move, all_diffused, arrived, diffused, diffusion, end_of_move}
 use Rattle.smol_meaning.specs.Moves.{IsMove}
 use Rattle.smol_meaning.specs.Placed.{IsMoveOf, IsPlaced, StandsWithin}
 use Rattle.smol_meaning.specs.Step.{births_in_step, events_of, mols_after, moves_of, next_state, reacted, reactions_of_two, remains, within_limit}
@@ -248,3 +248,30 @@ moves_are draft seed state sound fits more =
       goes = birth_moves draft (reach_of_motion state.step) (get_or births i d) (births_are draft sound seed state fits more i d within)
           (births_start draft sound seed state fits more i d within) (motion_near draft sound seed state fits more);
     }))
+
+-- each product of molecules that stand where they may goes a way that is defined
+pub births_move : (draft : Draft) → IsSound draft → (seed k most next : ℕ) (mols : List Mol) → All (IsPlaced draft most) mols → most ≤ 2 ^ 57
+    → All (λ (birth : Birth). IsMoveOf draft (birth_move birth)) (births_in_step draft seed k mols next)
+births_move draft sound seed k most next mols placed near =
+    let births = births_in_step draft seed k mols next in
+    let are = births_of_are draft sound next (events_of draft seed k mols) (events_are draft seed k sound mols) in
+    let start = births_of_start draft most next (events_of draft seed k mols) (events_stand draft seed k most mols placed) in
+    λ i d within. record {
+      species = (are i d within).species;
+      goes = birth_moves draft most (get_or births i d) (are i d within) (start i d within) near;
+    }
+
+-- the molecules of a state that fits are near enough for a way to be defined
+pub mols_near : (draft : Draft) (state : State) → Fits draft state → state.step ≤ most_steps → All (IsPlaced draft (2 ^ 57)) state.mols
+mols_near draft state fits few =
+    All-weaker (IsPlaced draft (reach state.step)) (IsPlaced draft (2 ^ 57)) (placed_farther draft (reach state.step) (2 ^ 57) (reach_near state.step few)) state.mols (Fits-placed draft state fits)
+
+-- and so are they after motion
+pub diffused_near : (draft : Draft) → IsSound draft → (seed : ℕ) (state : State) → Fits draft state → state.step + 1 ≤ last_step draft.start draft.stop draft.step
+    → All (IsPlaced draft (2 ^ 57)) (all_diffused draft seed (state.step + 1) state.mols)
+diffused_near draft sound seed state fits more =
+    All-weaker (IsPlaced draft (reach_of_motion state.step)) (IsPlaced draft (2 ^ 57))
+    (placed_farther draft (reach_of_motion state.step) (2 ^ 57) (motion_near draft sound seed state fits more)) _ (after_motion draft sound seed state fits more)
+
+pub diffused_few : (draft : Draft) → IsSound draft → (seed : ℕ) (state : State) → Fits draft state → length (all_diffused draft seed (state.step + 1) state.mols) ≤ most_molecules
+diffused_few draft sound seed state fits = omega (arith, length-filter_map (diffused draft seed (state.step + 1)) state.mols, fits.count, sound.max_below)

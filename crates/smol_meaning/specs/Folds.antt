@@ -1,5 +1,5 @@
 -- What holds of every fold that a way reaches among the plates of a configuration.
-use Rattle.std.specs.Prelude.{◌≡◌, ◌≢◌, ℕ, ◌+◌, ◌^◌, ◌<◌, ◌≤◌, List, length, All, ℤ, pos, ◌+ℤ◌, max, unsigned_abs}
+use Rattle.std.specs.Prelude.{◌≡◌, ◌≢◌, ℕ, ◌+◌, ◌^◌, ◌<◌, ◌≤◌, List, length, All, ℤ, pos, ◌+ℤ◌, unsigned_abs}
 use Rattle.smol_geom.specs.declared.fold.Fold.{Fold}
 use Rattle.smol_geom.specs.declared.place.Place.{Place}
 use Rattle.smol_geom.specs.declared.place.Step3.{Step3}
@@ -12,6 +12,7 @@ use Rattle.smol_meaning.specs.declared.way.Response.{Response}
 use Rattle.smol_meaning.specs.declared.way.Response.TheVariants.{Reflect, Absorb, Jump, Pass}
 use Rattle.smol_meaning.specs.declared.way.Standing.{Standing}
 use Rattle.smol_meaning.specs.declared.way.Standing.TheVariants.{Goes, Gone}
+use Rattle.smol_meaning.specs.Moves.{far_on}
 use Rattle.smol_meaning.specs.Plates.{Sheet, Rectangle, Plane, Plate}
 use Rattle.smol_meaning.specs.Way.{end_on}
 
@@ -35,7 +36,9 @@ IsSheet (Plane axis plane) = IsWallPlane axis plane
 -- translated, the sheet is within the lengths there are. A wall, which has no edges, is translated along its own axis alone
 abbrev pub LandsWithin : Sheet → List ℤ → Type 0
 LandsWithin (Rectangle rect) by =
-    EachAxis (λ axis. (unsigned_abs (on_axis rect.low axis +ℤ on_axis by axis) ≤ farthest) × (unsigned_abs (on_axis rect.high axis +ℤ on_axis by axis) ≤ farthest))
+    EachAxis (λ axis.
+    (unsigned_abs (on_axis rect.low axis +ℤ on_axis by axis) ≤ farthest)
+    × (unsigned_abs (on_axis rect.high axis +ℤ on_axis by axis) ≤ farthest))
 LandsWithin (Plane axis plane) by =
     (unsigned_abs (plane +ℤ on_axis by axis) ≤ farthest) × EachAxis (λ other. other ≢ axis → on_axis by other ≡ pos 0)
 
@@ -65,11 +68,11 @@ pub record IsSmallFold (f : Fold) : Type 0 where
   pub even : EachAxis (λ axis. IsEven (on_axis f.shift axis))
   pub size : IsWithin (2 ^ 58) f.shift
 
--- a fold that a way reaches: the end that it leads to is no farther out than the start or the farthest plane and the
--- displacement, and on an axis that isn't in use it is where the start is
+-- a fold that a way reaches: the end that it leads to is no farther out than a way may lead, and on an axis that isn't in use it
+-- is where the start is
 pub record FoldFits (dims : ℕ) (from : Place) (by : Step3) (f : Fold) : Type 0 where
   pub small : IsSmallFold f
-  pub end : EachAxis (λ axis. unsigned_abs (end_on from by f axis) ≤ max (unsigned_abs (on_axis from.0 axis)) farthest + unsigned_abs (on_axis by.0 axis))
+  pub end : EachAxis (λ axis. unsigned_abs (end_on from by f axis) ≤ far_on from by axis)
   pub unused : EachAxis (λ axis. dims ≤ axis → end_on from by f axis ≡ on_axis from.0 axis)
 
 abbrev pub StandingFits : ℕ → Place → Step3 → Standing → Type 0

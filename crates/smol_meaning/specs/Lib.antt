@@ -1,5 +1,6 @@
 pub mod Plates
 pub mod Way
+pub mod Ways
 pub mod Crossing
 pub mod Box
 pub mod Seen
@@ -21,3 +22,4 @@ pub mod Run
 pub mod Births
 pub mod Placed
 pub mod Folds
+pub mod Meeting

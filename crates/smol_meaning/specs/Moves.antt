@@ -15,12 +15,15 @@ pub record IsMove (dims : ℕ) (from : Place) (by : Step3) : Type 0 where
   pub step_even : EachAxis (λ axis. IsEven (on_axis by.0 axis))
   pub unused : EachAxis (λ axis. dims ≤ axis → on_axis by.0 axis ≡ pos 0)
 
--- a place is odd, no farther out than the start or the farthest plane and the displacement, and where an axis isn't in use it
--- is what the start is
+-- how far out a way may lead on an axis: as far as its start or the farthest plane, and on by the displacement
+abbrev pub far_on : Place → Step3 → ℕ → ℕ
+far_on from by axis = max (unsigned_abs (on_axis from.0 axis)) farthest + unsigned_abs (on_axis by.0 axis)
+
+-- a place is odd and no farther out than a way may lead, and on an axis that isn't in use it is where the start is
 pub record IsEndOf (dims : ℕ) (from : Place) (by : Step3) (place : Place) : Type 0 where
   pub count : length place.0 ≡ 3
   pub odd : EachAxis (λ axis. IsOdd (on_axis place.0 axis))
-  pub size : EachAxis (λ axis. unsigned_abs (on_axis place.0 axis) ≤ max (unsigned_abs (on_axis from.0 axis)) farthest + unsigned_abs (on_axis by.0 axis))
+  pub size : EachAxis (λ axis. unsigned_abs (on_axis place.0 axis) ≤ far_on from by axis)
   pub unused : EachAxis (λ axis. dims ≤ axis → on_axis place.0 axis ≡ on_axis from.0 axis)
 
 -- a way that isn't absorbed ends so

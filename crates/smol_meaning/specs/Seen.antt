@@ -77,7 +77,8 @@ wall_jump wall up (Some other) = Jump (slice_set (pos 0 ∷ pos 0 ∷ pos 0 ∷ 
 -- coordinates
 abbrev pub wall_response : Draft → ℕ → ℕ → Wall → Bool → Response
 wall_response draft species number wall up =
-    response_by number (action_of draft number (arrival_face (not wall.upper) up) species) (wall_jump wall up (opposite_of draft.walls wall))
+    response_by number (action_of draft number (arrival_face (not wall.upper) up) species)
+    (wall_jump wall up (opposite_of draft.walls wall))
 
 abbrev pub wall_plate : Draft → ℕ → ℕ × Wall → Plate
 wall_plate draft species entry = record {

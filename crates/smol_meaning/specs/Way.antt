@@ -27,9 +27,13 @@ abbrev pub end_on : Place → Step3 → Fold → ℕ → ℤ
 end_on from by f axis =
     on_axis f.sign axis *ℤ (on_axis from.0 axis +ℤ on_axis by.0 axis) +ℤ on_axis f.shift axis
 
+-- the place that a fold carries the end of the whole move to
+abbrev pub end_place : Place → Step3 → Fold → Place
+end_place from by f = record { 0 = end_on from by f 0 ∷ end_on from by f 1 ∷ end_on from by f 2 ∷ [] }
+
 -- where the way ends that has led so far when all moments are past
 abbrev pub ended : Place → Step3 → Standing → Travelled
-ended from by (Goes f) = At (record { 0 = end_on from by f 0 ∷ end_on from by f 1 ∷ end_on from by f 2 ∷ [] })
+ended from by (Goes f) = At (end_place from by f)
 ended from by (Gone number) = Absorbed number
 
 -- no mirror and no translation

@@ -4,10 +4,10 @@ use Rattle.smol_run.specs.declared.status.Status.{Status}
 use Rattle.smol_run.specs.declared.status.Status.TheVariants.{Done, Usage, Refused, Input, Output, Memory}
 
 -- the exit status of the program
-abbrev pub code_of : Status → ℕ
-code_of Done = 0
-code_of Usage = 1
-code_of Refused = 2
-code_of Input = 3
-code_of Output = 4
-code_of Memory = 5
+abbrev pub exit_code_of : Status → ℕ
+exit_code_of Done = 0
+exit_code_of Usage = 1
+exit_code_of Refused = 2
+exit_code_of Input = 3
+exit_code_of Output = 4
+exit_code_of Memory = 5

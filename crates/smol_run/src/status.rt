@@ -18,11 +18,11 @@ pub enum Status {
 }
 
 impl Status {
-    ghost use Rattle.smol_run.specs.Status.{code_of};
+    ghost use Rattle.smol_run.specs.Status.{exit_code_of};
 
     /// The program's exit status.
     pub fn code(self) -> u8
-        ensures { result ≡ code_of self }
+        ensures { result ≡ exit_code_of self }
     {
         self as u8
     }

@@ -2,7 +2,7 @@
 ghost use Rattle.std.specs.Prelude.{◌≡◌, ◌+◌, ◌<◌, None, IfOk, MatchResult, drop, length, map, string_bytes};
 ghost use Rattle.std.specs.Result.{result_ok};
 ghost use Rattle.std.specs.Option.{option_map};
-ghost use Rattle.smol_run.specs.Words.{Adds, is_file_name, IsSecond, item_of_two, items_of, job_of, NamesWord, seed_in, StandsAt, word_count};
+ghost use Rattle.smol_run.specs.Words.{Finds, is_file_name, IsSecond, item_of_two, items_of, job_of, NamesWord, seed_in, StandsAt, item_len};
 
 use smol_num::read_digits;
 
@@ -36,7 +36,7 @@ struct Found {
 impl Found {
     /// Adds an item. A second of its kind is refused.
     fn add(&mut self, item: Item) -> Result<(), WordFault>
-        ensures { MatchResult result (λ _. Adds item self.old self.new) (λ _. IsSecond item self.old) }
+        ensures { MatchResult result (λ _. Finds item self.old self.new) (λ _. IsSecond item self.old) }
     {
         let was_given = match item {
             Item::Name(index) => self.name.replace(index).is_some(),
@@ -70,7 +70,7 @@ pub fn read_words(words: &[String]) -> Result<Job, WordFault>
     while index < words.len() {
         let item = item_at(words, index)?;
         found.add(item)?;
-        index += word_count(item);
+        index += item_len(item);
     }
     found.job()
 }
@@ -93,8 +93,8 @@ fn item_at(words: &[String], index: usize) -> Result<Item, WordFault>
 }
 
 // How many words spell the item.
-fn word_count(item: Item) -> usize
-    ensures { result ≡ word_count item }
+fn item_len(item: Item) -> usize
+    ensures { result ≡ item_len item }
 {
     match item {
         Item::Name(_) => 1,

@@ -1,5 +1,5 @@
-ghost use Rattle.std.specs.Prelude.{◌≡◌, IfOk, map};
-ghost use Rattle.smol_types.specs.declared.surface.Panel.{Panel};
+ghost use Rattle.std.specs.Prelude.{◌≡◌, IfOk};
+ghost use Rattle.smol_travel.specs.Meetings.{panel_rects};
 
 use smol_geom::Rect;
 use smol_types::{Config, Panel};
@@ -15,22 +15,22 @@ pub struct Panels<'a> {
 }
 
 impl<'a> Model for Panels<'a> {
-    ghost use Rattle.std.specs.Prelude.{◌≡◌, map};
+    ghost use Rattle.std.specs.Prelude.{◌≡◌};
     ghost use Rattle.smol_types.specs.declared.draft.Draft.{Draft};
-    ghost use Rattle.smol_types.specs.declared.surface.Panel.{Panel};
     ghost use Rattle.smol_types.specs.Sound.{IsSound};
+    ghost use Rattle.smol_travel.specs.Meetings.{panel_rects};
 
     ghost Value = { Draft };
 
     ghost view = { λ panels. panels.config.now };
 
-    ghost invariant = { λ panels. IsSound panels.config.now × (panels.rects.items ≡ map (λ (panel : Panel). panel.rect) panels.config.now.panels) };
+    ghost invariant = { λ panels. IsSound panels.config.now × (panels.rects.items ≡ panel_rects panels.config.now.panels) };
 }
 
 impl<'a> Panels<'a> {
-    ghost use Rattle.std.specs.Prelude.{◌≡◌, IfOk, map};
-    ghost use Rattle.smol_types.specs.declared.surface.Panel.{Panel};
+    ghost use Rattle.std.specs.Prelude.{◌≡◌, IfOk};
     ghost use Rattle.smol_types.specs.Sound.{IsSound};
+    ghost use Rattle.smol_travel.specs.Meetings.{panel_rects};
 
     /// The panels and walls of a configuration.
     pub fn of(alloc: Global, config: &'a Config) -> Result<Panels<'a>, AllocError>
@@ -50,7 +50,7 @@ impl<'a> Panels<'a> {
 
     // The rectangles of the panels, in the order of their numbers.
     pub fn rects(&self) -> &[Rect]
-        ensures { result.now ≡ map (λ (panel : Panel). panel.rect) self.now.panels }
+        ensures { result.now ≡ panel_rects self.now.panels }
     {
         self.rects.as_slice()
     }
@@ -58,7 +58,7 @@ impl<'a> Panels<'a> {
 
 // The rectangles of panels.
 fn rects_of(alloc: Global, panels: &[Panel]) -> Result<Vec<Rect>, AllocError>
-    ensures { IfOk result (λ rects. rects.items ≡ map (λ (panel : Panel). panel.rect) panels.now) }
+    ensures { IfOk result (λ rects. rects.items ≡ panel_rects panels.now) }
 {
     panels.iter().map(|panel| panel.rect).collect(alloc)
 }

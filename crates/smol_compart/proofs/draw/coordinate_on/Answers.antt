@@ -1,4 +1,4 @@
-use Rattle.std.proofs.Common.{◌≡◌, sym, ap, ◌∙◌, FitsSigned, w64}
+use Rattle.std.proofs.Common.{sym, ap, ◌∙◌, FitsSigned, w64}
 use Rattle.std.proofs.lemmas.Int.{to_z-of_z}
 use Rattle.smol_types.specs.declared.placing.Given.{Given}
 use Rattle.smol_compart.specs.Coordinate.{coordinate_on}

@@ -1,4 +1,4 @@
-use Rattle.std.proofs.Common.{◌≡◌, ◌+◌, ◌-◌, ℕ, suc, ◌^◌, sym, subst, ap, ◌∙◌, arith, Bool, true, false, Option, Some}
+use Rattle.std.proofs.Common.{◌≡◌, ◌+◌, ◌-◌, ℕ, suc, ◌^◌, sym, subst, ap, ◌∙◌, arith, true, false, Some}
 use Rattle.smol_geom.specs.declared.place.Place.{Place}
 use Rattle.smol_meaning.specs.Inside.{is_inside}
 use Rattle.smol_meaning.specs.Placement.{anywhere, first_inside, most_tries, place_at_try}

@@ -1,4 +1,4 @@
-use Rattle.std.proofs.Common.{◌≡◌, ◌∙◌, ap, ℕ, ℤ, FitsSigned, w64, to_z, of_z, get_or}
+use Rattle.std.proofs.Common.{◌∙◌, ap, ℕ, FitsSigned, w64, get_or}
 use Rattle.std.proofs.lemmas.Int.{to_z-of_z}
 use Rattle.smol_types.specs.declared.placing.Given.TheVariants.{Any}
 use Rattle.smol_compart.specs.Coordinate.{coordinate_on}

@@ -1,10 +1,9 @@
-use Rattle.std.proofs.Common.{◌≡◌, ◌+◌, ℕ, List, [], Result, Ok, sum_by, take, drop, sym, subst, ap, ◌∙◌, arith}
+use Rattle.std.proofs.Common.{◌+◌, ℕ, [], Ok, drop, sym, ap, ◌∙◌, arith}
 use Rattle.std.proofs.lemmas.Grind.{common_steps}
 use Rattle.smol_types.specs.declared.placing.Placing.{Placing}
 use Rattle.smol_types.specs.declared.placing.Placing.TheVariants.{Mol}
 use Rattle.smol_types.specs.declared.state.State.{State}
-use Rattle.smol_types.specs.Placings.{placed_by}
-use Rattle.smol_meaning.specs.Placement.{NoPlace, opened, opened_with, opening_state, placed_from, placed_together}
+use Rattle.smol_meaning.specs.Placement.{opening_state, placed_from, placed_together}
 use Rattle.smol_meaning.proofs.Opening.{opening_fits}
 use Rattle.smol_compart.proofs.Placing.{from_more, placed_more}
 use Rattle.smol_compart.proofs.opening.place_all.Goals as goal

@@ -1,7 +1,7 @@
-use Rattle.std.proofs.Common.{◌≡◌, ◌+◌, ◌-◌, ℕ, List, [], ◌∷◌, ◌++◌, Result, Ok, sym, subst, ap, ◌∙◌}
+use Rattle.std.proofs.Common.{◌≡◌, ◌+◌, ◌-◌, ℕ, List, Ok, sym, ap, ◌∙◌}
 use Rattle.smol_types.specs.declared.state.Mol.{Mol}
 use Rattle.smol_types.specs.Placings.{placed_by}
-use Rattle.smol_meaning.specs.Placement.{NoPlace, placed_many, placed_one, placed_together}
+use Rattle.smol_meaning.specs.Placement.{placed_many, placed_one, placed_together}
 use Rattle.smol_compart.proofs.Placing.{many_more}
 use Rattle.smol_compart.proofs.opening.place_many.Goals as goal
 

@@ -1,11 +1,12 @@
-use Rattle.std.proofs.Common.{◌≡◌, ◌++◌, ℕ, take, drop}
-use Rattle.smol_config.specs.Species.{names_of, new_names}
-use Rattle.smol_config.specs.Motion.{motion_at}
+use Rattle.std.proofs.Common.{◌≡◌, ◌++◌, ◌-◌, ℕ, take, drop, slice_index_or}
+use Rattle.smol_config.specs.Species.{further_words, names_fault}
+use Rattle.smol_config.specs.Motion.{still}
 use Rattle.smol_config.proofs.species.add_names.Given as goal
 
+-- the words so far are names now, and the others are left
 abbrev pub invariant-loop-i : goal.invariant-loop-i
 invariant-loop-i l = record {
-  names : names_of l.species.items ≡ names_of l.initial.species.items ++ take l.i l.words;
-  rest : new_names (names_of l.initial.species.items) l.words ≡ new_names (names_of l.species.items) (drop l.i l.words);
-  motions : (number : ℕ) → motion_at l.species.items number ≡ motion_at l.initial.species.items number;
+  names : l.species.names ≡ l.initial.species.names ++ take (l.i - 1) (further_words l.line);
+  rest : names_fault l.initial.species.names (further_words l.line) ≡ names_fault l.species.names (drop (l.i - 1) (further_words l.line));
+  motions : (number : ℕ) → slice_index_or l.species.motions.items number still ≡ slice_index_or l.initial.species.motions.items number still;
 }

@@ -1,6 +1,6 @@
 use Rattle.std.proofs.Common.{◌≡◌, ◌≤◌, take}
 use Rattle.std.specs.Prelude.{sum_by}
-use Rattle.smol_types.specs.Sound.{placed_by}
+use Rattle.smol_types.specs.Placings.{placed_by}
 use Rattle.smol_config.proofs.whole.are_few.Given as goal
 
 abbrev pub invariant-loop-placing : goal.invariant-loop-placing

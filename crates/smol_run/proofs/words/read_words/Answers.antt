@@ -1,7 +1,7 @@
 use Rattle.std.proofs.Common.{◌≡◌, ◌∙◌, ap, length, map, None, string_bytes, arith, rules}
 use Rattle.std.proofs.lemmas.List.{length-map}
 use Rattle.smol_run.specs.Words.{job_of}
-use Rattle.smol_run.proofs.Items.{job_of_more, job_of_more-Adds, job_of_more-IsSecond, named-Adds}
+use Rattle.smol_run.proofs.Items.{job_of_more, job_of_more-Finds, job_of_more-IsSecond, named-Finds}
 use Rattle.smol_run.proofs.words.read_words.Goals as goal
 
 -- the item is a second of its kind
@@ -16,9 +16,9 @@ pub loop-index-preserved : goal.loop-index-preserved
 loop-index-preserved c =
     let words = map string_bytes c.args.words.now in
     let count = length-map c.args.words.now string_bytes in
-    rw c.word_count-index.ensures
+    rw c.item_len-index.ensures
     (record {
       within = omega (arith, c.in_ok-item.ensures.fits, count);
-      named = named-Adds c.in_ok-item.item c.loop-index.found c.add.new.self (length c.args.words.now) c.in_ok-add.ensures (rw count at c.in_ok-item.ensures.within) c.loop-index.invariant.named;
-      same = c.loop-index.invariant.same ∙ ap (job_of_more c.loop-index.found) c.in_ok-item.ensures.first ∙ job_of_more-Adds c.in_ok-item.item c.loop-index.found c.add.new.self _ c.in_ok-add.ensures;
+      named = named-Finds c.in_ok-item.item c.loop-index.found c.add.new.self (length c.args.words.now) c.in_ok-add.ensures (rw count at c.in_ok-item.ensures.within) c.loop-index.invariant.named;
+      same = c.loop-index.invariant.same ∙ ap (job_of_more c.loop-index.found) c.in_ok-item.ensures.first ∙ job_of_more-Finds c.in_ok-item.item c.loop-index.found c.add.new.self _ c.in_ok-add.ensures;
     })

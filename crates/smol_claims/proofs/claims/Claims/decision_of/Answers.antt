@@ -1,4 +1,4 @@
-use Rattle.std.proofs.Common.{◌∙◌, sym}
+use Rattle.std.proofs.Common.{◌∙◌}
 use Rattle.smol_claims.proofs.CodeLemmas.{serial_decision-after}
 use Rattle.smol_claims.proofs.claims.Claims.decision_of.Goals as goal
 

@@ -1,11 +1,10 @@
-use Rattle.std.proofs.Common.{◌≡◌, ℕ, List, false, refl, sym, ◌∙◌, ap, subst, inl, inr, Some}
+use Rattle.std.proofs.Common.{◌≡◌, List, false, sym, ◌∙◌, ap, subst, inl, inr, Some}
 use Rattle.smol_plan.specs.declared.pair.Pair.{Pair}
-use Rattle.smol_plan.specs.declared.decision.Decision.{Decision}
 use Rattle.smol_plan.specs.Pair.{molecule_at}
 use Rattle.smol_plan.specs.Links.{source_of, is_taken_before}
 use Rattle.smol_plan.specs.Decision.{TellsTaken}
 use Rattle.smol_plan.proofs.TakenLemmas.{is_taken_before-none, is_taken_before-source}
-use Rattle.smol_claims.specs.Code.{decision_in, serial_decision, IsCodeOf}
+use Rattle.smol_claims.specs.Code.{serial_decision, IsCodeOf}
 use Rattle.smol_claims.proofs.CodeLemmas.{decision_in-serial, serial_decision-tells}
 use Rattle.smol_claims.proofs.claims.Claims.is_taken.Goals as goal
 

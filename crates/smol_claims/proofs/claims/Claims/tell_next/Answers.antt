@@ -1,11 +1,10 @@
-use Rattle.std.proofs.Common.{◌≡◌, ℕ, ◌+◌, ◌<◌, ◌≤◌, ◌∷◌, ◌++◌, [], List, length, length-append, Option, true, false, not, ◌&&◌, refl, sym, ◌∙◌, ap, subst, arith, Some}
+use Rattle.std.proofs.Common.{◌≡◌, ℕ, ◌<◌, ◌∷◌, ◌++◌, [], List, length, length-append, true, not, ◌&&◌, sym, ◌∙◌, ap, subst, arith}
 use Rattle.smol_plan.specs.declared.pair.Pair.{Pair}
 use Rattle.smol_plan.specs.declared.pair.Side.{Side}
 use Rattle.smol_plan.specs.Links.{comes_by}
-use Rattle.smol_claims.specs.declared.view.View.{View}
 use Rattle.smol_claims.specs.View.{has_link, view_telling}
 use Rattle.smol_claims.specs.Hand.{IsInHand}
-use Rattle.smol_claims.proofs.HandLemmas.{hand_room, hand_told, hand_received}
+use Rattle.smol_claims.proofs.HandLemmas.{hand_room, hand_received}
 use Rattle.smol_claims.proofs.NextLinkLemmas.{owed_after}
 use Rattle.smol_claims.proofs.claims.Claims.tell_next.Goals as goal
 

@@ -1,20 +1,17 @@
-use Rattle.smol_config.proofs.KeptLemmas.{all_placed_within, sound_with}
+use Rattle.std.proofs.Common.{sym, ap}
+use Rattle.std.proofs.lemmas.Result.{err_from_is_err_and}
+use Rattle.smol_config.specs.Said.{walls, say}
+use Rattle.smol_config.specs.Reader.{statement_in}
+use Rattle.smol_config.proofs.Held.{walls_held}
 use Rattle.smol_config.proofs.tables.Tables.read_boundaries.Goals as goal
 
-pub returns-clause-kept : goal.returns-clause-kept
-returns-clause-kept c =
-    let old = c.requires.kept in
-    let given = c.in_ok-axis in
-    record {
-      dims = old.dims;
-      species = old.species;
-      start = old.start;
-      stop = old.stop;
-      step = old.step;
-      max_mol = old.max_mol;
-      bounds = sound_with _ given.axis given.given given.ensures.axis_within
-          (record { low_size = given.ensures.low_size; high_size = given.ensures.high_size; ordered = given.ensures.ordered }) old.bounds;
-      placings = all_placed_within _ _ _ given.axis given.given _ given.ensures.fresh old.placings;
-      commands = old.commands;
-      acts = old.acts;
-    }
+pub returns-in_err-axis : goal.returns-in_err-axis
+unfolding statement_in
+returns-in_err-axis c =
+    let p = err_from_is_err_and c.from_residual.result c.from_residual.ensures.1 in
+    rw (p.1, p.2) (λ before holds. ap (say (λ given. walls given.0 given.1)) (sym (c.in_err-axis.ensures.rule before holds.dims holds.bounds)))
+
+pub returns : goal.returns
+unfolding statement_in
+returns c before holds =
+    (walls c.in_ok-axis.axis c.in_ok-axis.given, ap (say (λ given. walls given.0 given.1)) (sym (c.in_ok-axis.ensures.rule before holds.dims holds.bounds)), walls_held c.args.self.now before c.in_ok-axis.axis c.in_ok-axis.given c.in_ok-axis.ensures.within holds)

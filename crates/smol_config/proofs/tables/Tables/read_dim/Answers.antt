@@ -1,20 +1,17 @@
-use Rattle.std.proofs.Common.{Some, length}
-use Rattle.smol_config.proofs.KeptLemmas.{all_placed_with_dims}
+use Rattle.std.proofs.Common.{sym, ap}
+use Rattle.std.proofs.lemmas.Result.{err_from_is_err_and}
+use Rattle.smol_config.specs.Said.{axes, say}
+use Rattle.smol_config.specs.Reader.{statement_in}
+use Rattle.smol_config.proofs.Held.{axes_held}
 use Rattle.smol_config.proofs.tables.Tables.read_dim.Goals as goal
 
-pub returns-clause-kept : goal.returns-clause-kept
-returns-clause-kept c =
-    let old = c.requires.kept in
-    let tables = c.args.self.now in
-    record {
-      dims = (c.in_ok-judge.ensures.least, c.in_ok-judge.ensures.most);
-      species = old.species;
-      start = old.start;
-      stop = old.stop;
-      step = old.step;
-      max_mol = old.max_mol;
-      bounds = old.bounds;
-      placings = all_placed_with_dims tables.bounds (length tables.species.items) (Some c.in_ok-judge.field-0) tables.placings (rw c.in_ok-judge.ensures.fresh at old.placings);
-      commands = old.commands;
-      acts = old.acts;
-    }
+pub returns-in_err-judge : goal.returns-in_err-judge
+unfolding statement_in
+returns-in_err-judge c =
+    let p = err_from_is_err_and c.from_residual.result c.from_residual.ensures.1 in
+    rw (p.1, p.2) (λ before holds. ap (say axes) (sym (c.in_err-judge.ensures before holds.dims)))
+
+pub returns : goal.returns
+unfolding statement_in
+returns c before holds =
+    (axes c.in_ok-judge.field-0, ap (say axes) (sym (c.in_ok-judge.ensures before holds.dims)), axes_held c.args.self.now before c.in_ok-judge.field-0 holds)

@@ -1,0 +1,6 @@
+use Rattle.std.proofs.Common.{length}
+use Rattle.smol_blocks.specs.SurfaceTable.{IsReady}
+use Rattle.smol_blocks.proofs.tests.read_block.Given as goal
+
+abbrev pub invariant-loop-k : goal.invariant-loop-k
+invariant-loop-k l = IsReady l.table (length l.species)

@@ -1,0 +1,126 @@
+-- The draft that the tables make is what the lines say, and its tests are those of the whole file.
+use Rattle.std.proofs.Common.{◌≡◌, ◌≤◌, ℕ, Bool, true, false, ℤ, pos, nat_le, IfSome, unsigned_abs, to_z, of_z, w64, arith, List, [], Option, None, Some, Result, Ok, Err, slice_index_or, unwrap_or, refl, sym, ap, ◌∙◌}
+use Rattle.std.specs.List.{list_all}
+use Rattle.std.proofs.lemmas.Int.{ints}
+use Rattle.smol_types.specs.declared.draft.Draft.{Draft}
+use Rattle.smol_types.specs.declared.fault.Kind.{Kind}
+use Rattle.smol_types.specs.declared.fault.Kind.TheVariants.{OutOfRange, TooMany}
+use Rattle.smol_types.specs.declared.species.Species.{Species}
+use Rattle.smol_types.specs.declared.wall.Wall.{Wall}
+use Rattle.smol_types.specs.Steps.{last_step}
+use Rattle.smol_line.specs.Checks.{unless}
+use Rattle.smol_config.specs.declared.tables.Tables.{Tables}
+use Rattle.smol_config.specs.declared.whole.Needed.{Needed}
+use Rattle.smol_config.specs.Said.{Said}
+use Rattle.smol_config.specs.MaxMol.{limit_of}
+use Rattle.smol_config.specs.Species.{species_of}
+use Rattle.smol_config.specs.Content.{content_of, species_from, started, walls_of}
+use Rattle.smol_config.specs.Tables.{Holds, species_made}
+use Rattle.smol_config.specs.Whole.{bounded, has_difstep, has_few_steps}
+use Rattle.smol_config.proofs.SpeciesNames.{species_are}
+
+-- the draft that the tables make, with these species and walls
+abbrev pub drafted : Needed → Tables → List Species → List Wall → Draft
+drafted needed tables species walls = record {
+  dims = needed.dims;
+  species = species;
+  walls = walls;
+  surfaces = [];
+  panels = [];
+  compartments = [];
+  reactions = [];
+  placings = tables.placings;
+  commands = tables.commands;
+  outputs = [];
+  start = unwrap_or tables.start (pos 0);
+  stop = needed.stop;
+  step = needed.step;
+  max_mol = unwrap_or tables.max_mol 100000;
+  seed = tables.seed;
+}
+
+-- the walls that the tables make
+abbrev pub walled : Tables → List Wall
+walled tables = walls_of (slice_index_or tables.bounds 0 None) (slice_index_or tables.bounds 1 None) (slice_index_or tables.bounds 2 None)
+
+module _ (needed : Needed) (tables : Tables) (before : List Said) (h : Holds tables before) where
+  pub species_held : species_made needed.step tables.species.motions.items 0 tables.species.names ≡ species_from needed.step before 0 (species_of before)
+  species_held = species_are needed.step before tables.species.motions.items h.motions 0 tables.species.names ∙ ap (species_from needed.step before 0) h.species
+
+  -- what the tables make is what the lines say
+  pub drafted_is : drafted needed tables (species_made needed.step tables.species.motions.items 0 tables.species.names) (walled tables) ≡ content_of needed before
+  unfolding content_of
+  drafted_is =
+      let species = species_held in
+      let walls : walled tables ≡ walls_of _ _ _ = rw (h.bounds.x, h.bounds.y, h.bounds.z) refl in
+      λ i. record {
+        dims = needed.dims;
+        species = species i;
+        walls = walls i;
+        surfaces = [];
+        panels = [];
+        compartments = [];
+        reactions = [];
+        placings = h.placings i;
+        commands = h.commands i;
+        outputs = [];
+        start = started (h.start i);
+        stop = needed.stop;
+        step = needed.step;
+        max_mol = limit_of (h.max_mol i);
+        seed = h.seed i;
+      }
+
+-- too many steps are told first
+pub bounded-many : (draft : Draft) → has_few_steps draft ≡ false → bounded draft ≡ Err TooMany
+unfolding bounded
+bounded-many draft many = rw many refl
+
+-- then difsteps that are too large
+pub bounded-far : (draft : Draft) → has_few_steps draft ≡ true → list_all has_difstep draft.species ≡ false → bounded draft ≡ Err OutOfRange
+unfolding bounded
+bounded-far draft few far = rw (few, far) refl
+
+-- a time within the limits stays as it is in 64 bits
+pub time_kept : (time : ℤ) → unsigned_abs time ≤ 1000000000000000000 → to_z w64 (of_z w64 time) ≡ time
+time_kept time small = omega (arith, ints)
+
+-- a start that may be left out is within the limits either way
+pub start_within : (given : Option ℤ) → IfSome given (λ time. unsigned_abs time ≤ 1000000000000000000) → unsigned_abs (unwrap_or given (pos 0)) ≤ 1000000000000000000
+start_within None within = omega arith
+start_within (Some time) within = within
+
+-- the steps that the tables make are those of the content
+pub few_steps : (needed : Needed) (tables : Tables) (before : List Said) (start : ℤ) (count : ℕ) → Holds tables before → start ≡ unwrap_or tables.start (pos 0) → IfSome tables.start (λ time. unsigned_abs time ≤ 1000000000000000000) → unsigned_abs needed.stop ≤ 1000000000000000000 → unsigned_abs needed.step ≤ 1000000000000000000
+    → count ≡ last_step (to_z w64 (of_z w64 start)) (to_z w64 (of_z w64 needed.stop)) (to_z w64 (of_z w64 needed.step)) → nat_le count 4000000 ≡ has_few_steps (content_of needed before)
+unfolding content_of
+few_steps needed tables before start count h is within stop step counted =
+    let from = ap (λ (t : ℤ). to_z w64 (of_z w64 t)) is ∙ time_kept (unwrap_or tables.start (pos 0)) (start_within tables.start within) ∙ ap started h.start in
+    let to = time_kept needed.stop stop in
+    let by = time_kept needed.step step in
+    ap (λ n. nat_le n 4000000) (counted ∙ (λ j. last_step (from j) (to j) (by j)))
+
+-- a test that fails tells its fault
+pub unless_fails : (test : Bool) (kind why : Kind) → Some kind ≡ unless test why → (test ≡ false) × (kind ≡ why)
+unless_fails true kind why is = absurd cc
+unless_fails false kind why is = (refl, cc)
+
+-- drafts are equal where each of their fields is
+pub same_draft : (a b : Draft) → a.dims ≡ b.dims → a.species ≡ b.species → a.walls ≡ b.walls → a.surfaces ≡ b.surfaces → a.panels ≡ b.panels → a.compartments ≡ b.compartments → a.reactions ≡ b.reactions → a.placings ≡ b.placings → a.commands ≡ b.commands → a.outputs ≡ b.outputs → a.start ≡ b.start → a.stop ≡ b.stop → a.step ≡ b.step → a.max_mol ≡ b.max_mol → a.seed ≡ b.seed → a ≡ b
+same_draft a b dims species walls surfaces panels compartments reactions placings commands outputs start stop step max_mol seed = λ i. record {
+  dims = dims i;
+  species = species i;
+  walls = walls i;
+  surfaces = surfaces i;
+  panels = panels i;
+  compartments = compartments i;
+  reactions = reactions i;
+  placings = placings i;
+  commands = commands i;
+  outputs = outputs i;
+  start = start i;
+  stop = stop i;
+  step = step i;
+  max_mol = max_mol i;
+  seed = seed i;
+}

@@ -1,0 +1,268 @@
+-- What an accepted text says is sound.
+use Rattle.std.proofs.Common.{◌≡◌, ◌+◌, ◌*◌, ◌<◌, ◌≤◌, ◌%◌, ◌||◌, Bool, true, false, ℕ, zero, suc, ℤ, pos, ◌<ℤ◌, ◌*ℤ◌, nat_le, List, [], ◌∷◌, length, map, All, Option, None, Some, Result, Ok, Err, IfSome, sum_by, unsigned_abs, unwrap_or, arith, refl, sym, ap, ◌∙◌, subst, if◌then◌else◌, nat_lt}
+use Rattle.std.specs.List.{list_all}
+use Rattle.std.proofs.lemmas.Bool.Decides.{nat_tests}
+use Rattle.std.proofs.lemmas.Int.{ints}
+use Rattle.std.proofs.lemmas.List.Elements.{All-weaker}
+use Rattle.std.proofs.lemmas.List.Sums.{AllPass-from_list_all}
+use Rattle.smol_text.specs.Reading.{Stated, LinesFault, statements_of}
+use Rattle.smol_types.specs.declared.draft.Draft.{Draft}
+use Rattle.smol_types.specs.declared.fault.Kind.{Kind}
+use Rattle.smol_types.specs.declared.fault.Kind.TheVariants as kind
+use Rattle.smol_types.specs.declared.fault.Need.TheVariants as need
+use Rattle.smol_types.specs.declared.species.Species.{Species}
+use Rattle.smol_types.specs.declared.wall.Wall.{Wall}
+use Rattle.smol_types.specs.Commands.{IsCommand}
+use Rattle.smol_types.specs.Placings.{IsPlacing, placed_by}
+use Rattle.smol_types.specs.Sound.{IsSound}
+use Rattle.smol_types.specs.Steps.{last_step}
+use Rattle.smol_types.specs.Walls.{IsAxis, AreWalls}
+use Rattle.smol_line.specs.Checks.{unless, passing, there, with_value}
+use Rattle.smol_line.specs.Fault.{Fault, fault_at, at_line}
+use Rattle.smol_line.proofs.Passing.{passed, valued, holds, is_there}
+use Rattle.smol_config.specs.declared.walls.Bounds.{Bounds}
+use Rattle.smol_config.specs.declared.whole.Needed.{Needed}
+use Rattle.smol_config.specs.Said.{Said}
+use Rattle.smol_config.specs.Dim.{dims_of}
+use Rattle.smol_config.specs.Species.{species_of}
+use Rattle.smol_config.specs.Times.{start_of, stop_of, step_of}
+use Rattle.smol_config.specs.MaxMol.{max_mol_of, limit_of}
+use Rattle.smol_config.specs.Walls.{bounds_of, is_walled}
+use Rattle.smol_config.specs.Mol.{placings_of}
+use Rattle.smol_config.specs.Cmd.{commands_of}
+use Rattle.smol_config.specs.Content.{content_of, species_from, started, walls_of}
+use Rattle.smol_config.specs.Whole.{bounded, has_difstep, has_few_steps, has_room, is_idle, needed_in, whole_in}
+use Rattle.smol_config.specs.Reader.{config_from, config_of, line_in, lines_in, read_from}
+use Rattle.smol_config.specs.SoFar.{IsBounded, IsSoFar}
+use Rattle.smol_config.specs.Tables.{AreSmall}
+use Rattle.smol_config.proofs.Rules.{line_keeps}
+
+-- the same value without its line
+pub in_line : {T : Type 0} (line : ℕ) (value : Result T Kind) (found : T) → at_line line value ≡ Ok found → value ≡ Ok found
+in_line line (Ok value) found is = let same : value ≡ found = cc in ap (λ v. Ok v) same
+in_line line (Err kind) found is = absurd cc
+
+-- what a file can't do without is given
+pub needed_is : (before : List Said) (needed : Needed) → needed_in before ≡ Ok needed
+    → (dims_of before ≡ Some needed.dims) × (is_walled needed.dims 0 (bounds_of 0 before) ≡ true) × (is_walled needed.dims 1 (bounds_of 1 before) ≡ true) × (is_walled needed.dims 2 (bounds_of 2 before) ≡ true)
+    × (stop_of before ≡ Some needed.stop) × (step_of before ≡ Some needed.step)
+unfolding needed_in
+needed_is before needed is =
+    let last = λ (dims : ℕ) (stop step : ℤ). let all : Result Needed Kind = Ok (record { dims = dims; stop = stop; step = step }) in all in
+    let timed = λ (dims : ℕ) (stop : ℤ). with_value (there (step_of before) (kind.Missing need.TimeStep)) (last dims stop) in
+    let rest = λ (dims : ℕ). with_value (there (stop_of before) (kind.Missing need.TimeStop)) (timed dims) in
+    let x = λ (dims : ℕ). unless (is_walled dims 0 (bounds_of 0 before)) (kind.Missing (need.Boundaries 0)) in
+    let y = λ (dims : ℕ). unless (is_walled dims 1 (bounds_of 1 before)) (kind.Missing (need.Boundaries 1)) in
+    let z = λ (dims : ℕ). unless (is_walled dims 2 (bounds_of 2 before)) (kind.Missing (need.Boundaries 2)) in
+    let dims = valued (there (dims_of before) (kind.Missing need.Dim)) (λ dims. passing (x dims ∷ y dims ∷ z dims ∷ []) (rest dims)) needed is in
+    let a = passed (x dims.0) (y dims.0 ∷ z dims.0 ∷ []) (rest dims.0) needed dims.2 in
+    let b = passed (y dims.0) (z dims.0 ∷ []) (rest dims.0) needed a.1 in
+    let c = passed (z dims.0) [] (rest dims.0) needed b.1 in
+    let stop = valued (there (stop_of before) (kind.Missing need.TimeStop)) (timed dims.0) needed c.1 in
+    let step = valued (there (step_of before) (kind.Missing need.TimeStep)) (last dims.0 stop.0) needed stop.2 in
+    let made : Needed = record { dims = dims.0; stop = stop.0; step = step.0 } in
+    let same : made ≡ needed = cc in
+    subst (λ (needed : Needed). (dims_of before ≡ Some needed.dims) × (is_walled needed.dims 0 (bounds_of 0 before) ≡ true) × (is_walled needed.dims 1 (bounds_of 1 before) ≡ true) × (is_walled needed.dims 2 (bounds_of 2 before) ≡ true)
+    × (stop_of before ≡ Some needed.stop) × (step_of before ≡ Some needed.step)) same (
+      is_there (dims_of before) (kind.Missing need.Dim) dims.0 dims.1,
+      holds (is_walled dims.0 0 (bounds_of 0 before)) (kind.Missing (need.Boundaries 0)) a.0,
+      holds (is_walled dims.0 1 (bounds_of 1 before)) (kind.Missing (need.Boundaries 1)) b.0,
+      holds (is_walled dims.0 2 (bounds_of 2 before)) (kind.Missing (need.Boundaries 2)) c.0,
+      is_there (stop_of before) (kind.Missing need.TimeStop) stop.0 stop.1,
+      is_there (step_of before) (kind.Missing need.TimeStep) step.0 step.1,
+    )
+
+-- nothing in what is accepted is too much
+bounded_is : (draft found : Draft) → bounded draft ≡ Ok found → (draft ≡ found) × (has_few_steps draft ≡ true) × (list_all has_difstep draft.species ≡ true) × (has_room draft ≡ true)
+unfolding bounded
+bounded_is draft found is =
+    let few = unless (has_few_steps draft) kind.TooMany in
+    let near = unless (list_all has_difstep draft.species) kind.OutOfRange in
+    let room = unless (has_room draft) kind.TooMany in
+    let idle = unless (is_idle draft) kind.NotInProfile in
+    let all : Result Draft Kind = Ok draft in
+    let a = passed few (near ∷ room ∷ idle ∷ []) all found is in
+    let b = passed near (room ∷ idle ∷ []) all found a.1 in
+    let c = passed room (idle ∷ []) all found b.1 in
+    let d = passed idle [] all found c.1 in
+    let same : draft ≡ found = cc in
+    (same, holds (has_few_steps draft) kind.TooMany a.0, holds (list_all has_difstep draft.species) kind.OutOfRange b.0, holds (has_room draft) kind.TooMany c.0)
+
+doubled_even : (x : ℤ) → unsigned_abs (pos 2 *ℤ x) % 2 ≡ 0
+doubled_even x = omega (arith, ints)
+
+doubled_size : (x : ℤ) → unsigned_abs x ≤ 1000000000000 → unsigned_abs (pos 2 *ℤ x) ≤ 2000000000000
+doubled_size x small = omega (arith, ints)
+
+doubled_below : (x y : ℤ) → x <ℤ y → (pos 2 *ℤ x) <ℤ (pos 2 *ℤ y)
+doubled_below x y below = omega (arith, ints)
+
+-- the two walls of an axis
+walls_are_axis : (axis : ℕ) (dims : Option ℕ) (bounds : Bounds) → IsBounded dims axis bounds → IsAxis axis (record { axis = axis; plane = pos 2 *ℤ bounds.low.0; upper = false; letter = bounds.letter }) (record { axis = axis; plane = pos 2 *ℤ bounds.high.0; upper = true; letter = bounds.letter })
+walls_are_axis axis dims bounds sound = record {
+  lower_axis = refl;
+  upper_axis = refl;
+  lower_side = refl;
+  upper_side = refl;
+  lower_even = doubled_even bounds.low.0;
+  upper_even = doubled_even bounds.high.0;
+  lower_size = doubled_size bounds.low.0 sound.low_size;
+  upper_size = doubled_size bounds.high.0 sound.high_size;
+  ordered = doubled_below bounds.low.0 bounds.high.0 sound.ordered;
+  one_letter = refl;
+}
+
+unwalled : (dims axis : ℕ) → axis < dims → is_walled dims axis None ≡ true → ⊥
+unwalled dims axis used walled = let open_end : (nat_le dims axis || false) ≡ true = walled in grind (arith, nat_tests)
+
+-- the walls of all axes in use
+are_walls : (dims : ℕ) (x y z : Option Bounds) → 1 ≤ dims → dims ≤ 3 → is_walled dims 0 x ≡ true → is_walled dims 1 y ≡ true → is_walled dims 2 z ≡ true → IfSome x (IsBounded (Some dims) 0) → IfSome y (IsBounded (Some dims) 1) → IfSome z (IsBounded (Some dims) 2)
+    → AreWalls 0 (walls_of x y z) × (length (walls_of x y z) ≡ 2 * dims)
+unfolding walls_of
+are_walls dims None y z least most has_x has_y has_z sound_x sound_y sound_z = absurd (unwalled dims 0 (omega arith) has_x)
+are_walls dims (Some x) None None least most has_x has_y has_z sound_x sound_y sound_z =
+    let one : dims ≤ 1 = let open_end : (nat_le dims 1 || false) ≡ true = has_y in grind (arith, nat_tests) in
+    ((walls_are_axis 0 (Some dims) x sound_x, tt), omega arith)
+are_walls dims (Some x) None (Some z) least most has_x has_y has_z sound_x sound_y sound_z = let used = sound_z.in_use in absurd (unwalled dims 1 (omega arith) has_y)
+are_walls dims (Some x) (Some y) None least most has_x has_y has_z sound_x sound_y sound_z =
+    let two : dims ≤ 2 = let open_end : (nat_le dims 2 || false) ≡ true = has_z in grind (arith, nat_tests) in
+    let used = sound_y.in_use in
+    ((walls_are_axis 0 (Some dims) x sound_x, (walls_are_axis 1 (Some dims) y sound_y, tt)), omega arith)
+are_walls dims (Some x) (Some y) (Some z) least most has_x has_y has_z sound_x sound_y sound_z =
+    let used = sound_z.in_use in
+    ((walls_are_axis 0 (Some dims) x sound_x, (walls_are_axis 1 (Some dims) y sound_y, (walls_are_axis 2 (Some dims) z sound_z, tt))), omega arith)
+
+length-species_from : (time : ℤ) (before : List Said) (number : ℕ) (names : List (List ℕ)) → length (species_from time before number names) ≡ length names
+length-species_from time before number [] = refl
+length-species_from time before number (name ∷ names) = ap suc (length-species_from time before (number + 1) names)
+
+time_within : (given : Option ℤ) → IfSome given (λ time. unsigned_abs time ≤ 1000000000000000000) → unsigned_abs (started given) ≤ 1000000000000000000
+time_within None within = omega arith
+time_within (Some time) within = within
+
+limit_within : (given : Option ℕ) → IfSome given (λ count. (1 ≤ count) × (count ≤ 1000000)) → (0 < limit_of given) × (limit_of given ≤ 1000000)
+limit_within None within = (omega arith, omega arith)
+limit_within (Some count) within = (within.0, within.1)
+
+small_steps : (draft : Draft) → has_few_steps draft ≡ true → last_step draft.start draft.stop draft.step ≤ 4000000
+small_steps draft few = grind (arith, nat_tests)
+
+roomy : (placed most : ℕ) → nat_le placed most ≡ true → placed ≤ most
+roomy placed most room = grind (arith, nat_tests)
+
+near_all : (species : List Species) → list_all has_difstep species ≡ true → All (λ (one : Species). one.step ≤ 1000000000) species
+near_all species near =
+    All-weaker (λ (one : Species). has_difstep one ≡ true) (λ (one : Species). one.step ≤ 1000000000) (λ one passes. grind (arith, nat_tests)) species
+    (AllPass-from_list_all has_difstep species near)
+
+-- what lines without a fault say together is sound
+content_is_sound : (before : List Said) (needed : Needed) → IsSoFar before → needed_in before ≡ Ok needed → has_few_steps (content_of needed before) ≡ true → list_all has_difstep (content_of needed before).species ≡ true → has_room (content_of needed before) ≡ true → IsSound (content_of needed before)
+unfolding content_of
+content_is_sound before needed h is few near room =
+    let given = needed_is before needed is in
+    let axes = rw given.0 at h.dims in
+    let stop = rw given.4 at h.stop in
+    let step = rw given.5 at h.step in
+    let start = time_within (start_of before) h.start in
+    let most = limit_within (max_mol_of before) h.max_mol in
+    let Q : ℕ → Option Bounds → Option ℕ → Type 0 = λ axis bounds dims. IfSome bounds (IsBounded dims axis) in
+    let walls = are_walls needed.dims (bounds_of 0 before) (bounds_of 1 before) (bounds_of 2 before) axes.0 axes.1 given.1 given.2 given.3
+    (subst (Q 0 (bounds_of 0 before)) given.0 h.x) (subst (Q 1 (bounds_of 1 before)) given.0 h.y) (subst (Q 2 (bounds_of 2 before)) given.0 h.z) in
+    let count = length-species_from needed.step before 0 (species_of before) in
+    let around = walls_of (bounds_of 0 before) (bounds_of 1 before) (bounds_of 2 before) in
+    let Placed : ℕ → Type 0 = λ species. All (IsPlacing species 0 around) (placings_of before) in
+    let Commanded : ℕ → Type 0 = λ species. All (IsCommand species 0 0 around) (commands_of before) in
+    let few_species = h.species in record {
+      dims_above = axes.0;
+      dims_below = axes.1;
+      species = omega arith;
+      difsteps = near_all (content_of needed before).species near;
+      walls = walls.0;
+      wall_count = walls.1;
+      surface_count = omega arith;
+      panel_count = omega arith;
+      panels = λ k d within. absurd (omega arith);
+      compartment_count = omega arith;
+      compartments = λ k d within. absurd (omega arith);
+      reaction_count = omega arith;
+      reactions = λ k d within. absurd (omega arith);
+      shares = λ species within. omega arith;
+      placings = subst Placed (sym count) h.placings;
+      command_count = h.command_count;
+      commands = subst Commanded (sym count) h.commands;
+      output_count = omega arith;
+      start = start;
+      stop = stop;
+      step = step.0;
+      step_above = step.1;
+      steps = small_steps (content_of needed before) few;
+      max_above = most.0;
+      max_below = most.1;
+      placed = roomy (sum_by placed_by (placings_of before)) (limit_of (max_mol_of before)) room;
+    }
+
+-- what the whole file says is sound
+pub whole_is_sound : (before : List Said) (draft : Draft) → IsSoFar before → whole_in before ≡ Ok draft → IsSound draft
+unfolding whole_in
+whole_is_sound before draft h is =
+    let needed = valued (needed_in before) (λ needed. bounded (content_of needed before)) draft (in_line 0 (with_value (needed_in before) (λ needed. bounded (content_of needed before))) draft is) in
+    let by = bounded_is (content_of needed.0 before) draft needed.2 in
+    subst IsSound by.0 (content_is_sound before needed.0 h needed.1 by.1 by.2 by.3)
+
+-- so far nothing is said
+pub nothing_yet : IsSoFar []
+nothing_yet = record {
+  dims = tt;
+  species = omega arith;
+  start = tt;
+  stop = tt;
+  step = tt;
+  max_mol = tt;
+  x = tt;
+  y = tt;
+  z = tt;
+  settled = λ some. absurd (omega arith);
+  placings = λ k d within. absurd (omega arith);
+  command_count = omega arith;
+  commands = λ k d within. absurd (omega arith);
+}
+
+-- lines that are read keep what holds so far
+lines_keep : (before : List Said) (lines : List Stated) (all : List Said) → read_from before lines ≡ Ok all → IsSoFar before → IsSoFar all
+lines_keep before [] all is h = let same : before ≡ all = cc in subst IsSoFar same h
+lines_keep before (line ∷ lines) all is h =
+    let said = valued (at_line line.number (line_in before line)) (λ said. read_from (said ∷ before) lines) all is in
+    lines_keep (said.0 ∷ before) lines all said.2 (line_keeps before line said.0 (in_line line.number (line_in before line) said.0 said.1) h)
+
+by_length : (long : Bool) (rest : Result Draft Fault) (draft : Draft) (fault : Fault) → (if long then Err fault else rest) ≡ Ok draft → rest ≡ Ok draft
+by_length true rest draft fault is = absurd cc
+by_length false rest draft fault is = is
+
+-- accepted texts are sound
+pub accepted_is_sound : (text : List ℕ) (draft : Draft) → config_of text ≡ Ok draft → IsSound draft
+unfolding config_of
+accepted_is_sound text draft is =
+    let lines = valued (lines_in (statements_of text)) config_from draft (by_length (nat_lt 4194304 (length text)) (with_value (lines_in (statements_of text)) config_from) draft (fault_at 0 kind.TooLong) is) in
+    let all = valued (read_from [] lines.0) whole_in draft lines.2 in
+    whole_is_sound all.0 draft (lines_keep [] lines.0 all.0 all.1 nothing_yet) all.2
+
+-- how the tests of the whole file end
+pub whole_ok : (before : List Said) (needed : Needed) (draft : Draft) → needed_in before ≡ Ok needed → bounded (content_of needed before) ≡ Ok draft → whole_in before ≡ Ok draft
+unfolding whole_in
+whole_ok before needed draft is passes = rw (is, passes) refl
+
+pub whole_missing : (before : List Said) (why : Kind) → needed_in before ≡ Err why → whole_in before ≡ Err (fault_at 0 why)
+unfolding whole_in
+whole_missing before why is = rw is refl
+
+pub whole_excess : (before : List Said) (needed : Needed) (why : Kind) → needed_in before ≡ Ok needed → bounded (content_of needed before) ≡ Err why → whole_in before ≡ Err (fault_at 0 why)
+unfolding whole_in
+whole_excess before needed why is fails = rw (is, fails) refl
+
+-- walls that hold so far are of lengths that there are
+pub small_walls : (dims : Option ℕ) (axis : ℕ) (given bounds : Option Bounds) → given ≡ bounds → IfSome bounds (IsBounded dims axis) → IfSome given AreSmall
+small_walls dims axis given bounds same h = subst (λ (b : Option Bounds). IfSome b AreSmall) (sym same) (by bounds h)
+  where
+    by : (bounds : Option Bounds) → IfSome bounds (IsBounded dims axis) → IfSome bounds AreSmall
+    by None h = tt
+    by (Some bounds) h = record { low = h.low_size; high = h.high_size }

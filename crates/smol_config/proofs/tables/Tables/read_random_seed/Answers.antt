@@ -1,0 +1,17 @@
+use Rattle.std.proofs.Common.{sym, ap}
+use Rattle.std.proofs.lemmas.Result.{err_from_is_err_and}
+use Rattle.smol_config.specs.Said.{seeds, say}
+use Rattle.smol_config.specs.Reader.{statement_in}
+use Rattle.smol_config.proofs.Held.{seed_held}
+use Rattle.smol_config.proofs.tables.Tables.read_random_seed.Goals as goal
+
+pub returns-in_err-judge : goal.returns-in_err-judge
+unfolding statement_in
+returns-in_err-judge c =
+    let p = err_from_is_err_and c.from_residual.result c.from_residual.ensures.1 in
+    rw (p.1, p.2) (λ before holds. ap (say seeds) (sym (c.in_err-judge.ensures before holds.seed)))
+
+pub returns : goal.returns
+unfolding statement_in
+returns c before holds =
+    (seeds c.in_ok-judge.field-0, ap (say seeds) (sym (c.in_ok-judge.ensures before holds.seed)), seed_held c.args.self.now before c.in_ok-judge.field-0 holds)

@@ -1,0 +1,73 @@
+-- Which texts are configurations, and what they say: each line is judged from what the lines before it say.
+use Rattle.std.specs.Prelude.{ℕ, nat_lt, List, [], ◌∷◌, length, Result, Ok, Err, if◌then◌else◌}
+use Rattle.smol_text.specs.Reading.{Stated, LinesFault, bad_byte, open_comment, too_many_lines, statements_of}
+use Rattle.smol_types.specs.declared.draft.Draft.{Draft}
+use Rattle.smol_types.specs.declared.fault.Kind.{Kind}
+use Rattle.smol_types.specs.declared.fault.Kind.TheVariants as kind
+use Rattle.smol_line.specs.Fault.{Fault, fault_at, at_line}
+use Rattle.smol_line.specs.Words.{word_at}
+use Rattle.smol_line.specs.Checks.{with_value}
+use Rattle.smol_config.specs.declared.statement.Statement.{Statement}
+use Rattle.smol_config.specs.declared.statement.Statement.TheVariants.{PassedOver, NotInProfile, Unknown, Dim, Species, Difc, Difstep, TimeStart, TimeStop, TimeStep, MaxMol, RandomSeed, Boundaries, Mol, Cmd}
+use Rattle.smol_config.specs.Statement.{statement_of}
+use Rattle.smol_config.specs.Said.{Said, passed_over, axes, names, moves, starts, stops, steps, limits, seeds, walls, places, performs, say}
+use Rattle.smol_config.specs.Dim.{dim_in}
+use Rattle.smol_config.specs.Species.{species_in}
+use Rattle.smol_config.specs.Motion.{difc_in, difstep_in}
+use Rattle.smol_config.specs.Times.{start_of, stop_of, time_in, time_step_in}
+use Rattle.smol_config.specs.MaxMol.{max_mol_in}
+use Rattle.smol_config.specs.RandomSeed.{random_seed_in}
+use Rattle.smol_config.specs.Boundaries.{boundaries_in}
+use Rattle.smol_config.specs.Mol.{mol_in}
+use Rattle.smol_config.specs.Cmd.{cmd_in}
+use Rattle.smol_config.specs.Whole.{whole_in}
+
+-- what a line says that makes this statement, or its fault
+unfoldable pub statement_in : Statement → List Said → Stated → Result Said Kind
+statement_in PassedOver before line = Ok passed_over
+statement_in NotInProfile before line = Err kind.NotInProfile
+statement_in Unknown before line = Err kind.UnknownStatement
+statement_in Dim before line = say axes (dim_in before line)
+statement_in Species before line = say names (species_in before line)
+statement_in Difc before line = say (λ given. moves given.0 given.1) (difc_in before line)
+statement_in Difstep before line = say (λ given. moves given.0 given.1) (difstep_in before line)
+statement_in TimeStart before line = say starts (time_in (start_of before) line)
+statement_in TimeStop before line = say stops (time_in (stop_of before) line)
+statement_in TimeStep before line = say steps (time_step_in before line)
+statement_in MaxMol before line = say limits (max_mol_in before line)
+statement_in RandomSeed before line = say seeds (random_seed_in before line)
+statement_in Boundaries before line = say (λ given. walls given.0 given.1) (boundaries_in before line)
+statement_in Mol before line = say places (mol_in before line)
+statement_in Cmd before line = say performs (cmd_in before line)
+
+-- what a line says behind these, or its fault
+unfoldable pub line_in : List Said → Stated → Result Said Kind
+line_in before line = statement_in (statement_of (word_at line 0)) before line
+
+-- what all lines say, read on behind these. The first line with a fault ends the reading
+abbrev pub read_from : List Said → List Stated → Result (List Said) Fault
+read_from before [] = Ok before
+read_from before (line ∷ lines) = with_value (at_line line.number (line_in before line)) (λ said. read_from (said ∷ before) lines)
+
+-- a fault of a text's lines
+abbrev pub lines_fault : LinesFault → Fault
+lines_fault (bad_byte line) = fault_at line kind.BadByte
+lines_fault (open_comment line) = fault_at line kind.OpenComment
+lines_fault too_many_lines = fault_at 65537 kind.TooMany
+
+-- the faults of a text's lines come before those of its statements
+abbrev pub lines_in : Result (List Stated) LinesFault → Result (List Stated) Fault
+lines_in (Ok lines) = Ok lines
+lines_in (Err fault) = Err (lines_fault fault)
+
+-- what the lines of a text say together, or their first fault
+abbrev pub config_from : List Stated → Result Draft Fault
+config_from lines = with_value (read_from [] lines) whole_in
+
+-- the greatest length of a text, in bytes: 4 MiB
+abbrev pub most_bytes : ℕ
+most_bytes = 4194304
+
+-- what a text says as a configuration, or its first fault
+unfoldable pub config_of : List ℕ → Result Draft Fault
+config_of text = if nat_lt most_bytes (length text) then Err (fault_at 0 kind.TooLong) else with_value (lines_in (statements_of text)) config_from

@@ -1,0 +1,57 @@
+-- What a line says, and looking back over what the lines before it say. These stand nearest first.
+use Rattle.std.specs.Prelude.{ℕ, ℤ, List, [], ◌∷◌, ◌++◌, Option, None, Some, Result, Ok, Err}
+use Rattle.smol_types.specs.declared.fault.Kind.{Kind}
+use Rattle.smol_types.specs.declared.placing.Placing.{Placing}
+use Rattle.smol_types.specs.declared.command.Command.{Command}
+use Rattle.smol_line.specs.declared.species_word.Chosen.{Chosen}
+use Rattle.smol_config.specs.declared.motion.Motion.{Motion}
+use Rattle.smol_config.specs.declared.walls.Bounds.{Bounds}
+
+pub data Said : Type 0 where
+  -- nothing, as the line is passed over
+  passed_over : Said
+  -- so many axes are in use
+  axes : ℕ → Said
+  -- these are the names of further species
+  names : List (List ℕ) → Said
+  -- the species chosen move so
+  moves : Chosen → Motion → Said
+  -- the run starts, and stops, at this time, and a step takes this time
+  starts : ℤ → Said
+  stops : ℤ → Said
+  steps : ℤ → Said
+  -- there may be so many molecules
+  limits : ℕ → Said
+  -- this is the seed of the random words
+  seeds : ℕ → Said
+  -- the axis has these walls
+  walls : ℕ → Bounds → Said
+  -- these molecules are placed
+  places : Placing → Said
+  -- this command is performed
+  performs : Command → Said
+
+-- what is said by a value, where there is one
+abbrev pub say : {T : Type 0} → (T → Said) → Result T Kind → Result Said Kind
+say said (Ok value) = Ok (said value)
+say said (Err kind) = Err kind
+
+-- what is there in the first place, and else in the second
+abbrev pub nearer : {T : Type 0} → Option T → Option T → Option T
+nearer None older = older
+nearer (Some value) older = Some value
+
+-- what the nearest line before says of the matter
+abbrev pub nearest : {T : Type 0} → (Said → Option T) → List Said → Option T
+nearest matter [] = None
+nearest matter (said ∷ before) = nearer (matter said) (nearest matter before)
+
+-- further things behind a list of them
+abbrev pub followed : {T : Type 0} → List T → Option (List T) → List T
+followed things None = things
+followed things (Some more) = things ++ more
+
+-- what the lines before say of the matter, in their order
+abbrev pub gathered : {T : Type 0} → (Said → Option (List T)) → List Said → List T
+gathered matter [] = []
+gathered matter (said ∷ before) = followed (gathered matter before) (matter said)

@@ -1,0 +1,88 @@
+//! The whole reader.
+ghost use Rattle.std.specs.Prelude.{◌≡◌, [], Ok, IfOk, IfErr};
+ghost use Rattle.smol_text.specs.Reading.{TellsLines, statements_of};
+ghost use Rattle.smol_text.specs.Spans.{stated_lines};
+ghost use Rattle.smol_line.specs.Fault.{Tells};
+ghost use Rattle.smol_config.specs.Reader.{config_from, config_of, lines_in};
+ghost use Rattle.smol_config.specs.Told.{told_at, lines_told};
+
+use crate::tables::Tables;
+use crate::whole::finish;
+use smol_line::Refusal;
+use smol_text::{Text, TextFault, split_lines};
+use smol_types::{Config, ConfigFault, Kind};
+use std::alloc::Global;
+
+/// How long a configuration may be, in bytes.
+const MOST_BYTES: usize = 4_194_304;
+
+/// The line at which there are too many.
+const LINE_TOO_MANY: u32 = 65_537;
+
+// A fault of a line, or of the whole at line 0.
+fn told_at(line: u32, refusal: Refusal) -> ConfigFault
+    ensures { result ≡ told_at line refusal }
+{
+    match refusal {
+        Refusal::At(kind) => ConfigFault::At { line, kind },
+        Refusal::OutOfMemory => ConfigFault::OutOfMemory,
+    }
+}
+
+// A fault of a text's lines as a fault of a configuration.
+fn lines_told(fault: TextFault) -> ConfigFault
+    ensures { result ≡ lines_told fault }
+{
+    match fault {
+        TextFault::BadByte { line } => ConfigFault::At {
+            line,
+            kind: Kind::BadByte,
+        },
+        TextFault::OpenComment { line } => ConfigFault::At {
+            line,
+            kind: Kind::OpenComment,
+        },
+        TextFault::TooManyLines => ConfigFault::At {
+            line: LINE_TOO_MANY,
+            kind: Kind::TooMany,
+        },
+        TextFault::OutOfMemory => ConfigFault::OutOfMemory,
+    }
+}
+
+// Reads the lines of a text that make statements.
+fn read_lines(alloc: Global, text: &Text) -> Result<Config, ConfigFault>
+    ensures accepted { IfOk result (λ config. config_from (stated_lines text.now) ≡ Ok config) }
+    ensures refused { IfErr result (λ fault. Tells fault (config_from (stated_lines text.now))) }
+{
+    let mut tables = Tables::new(alloc);
+    for k in 0..text.len() {
+        let line = text.line(k);
+        match tables.read(alloc, &line) {
+            Ok(()) => {}
+            Err(refusal) => return Err(told_at(line.number(), refusal)),
+        }
+    }
+    match finish(alloc, tables) {
+        Ok(config) => Ok(config),
+        Err(refusal) => Err(told_at(0, refusal)),
+    }
+}
+
+/// Reads a configuration of any length. The answer is what the text says, or its first fault, unless memory runs out.
+#[tactic(auto, unfolding(crate::specs::Reader::config_of))]
+pub fn read_config(alloc: Global, bytes: &[u8]) -> Result<Config, ConfigFault>
+    ensures accepted { IfOk result (λ config. config_of bytes.now ≡ Ok config) }
+    ensures refused { IfErr result (λ fault. Tells fault (config_of bytes.now)) }
+{
+    if bytes.len() > MOST_BYTES {
+        return Err(ConfigFault::At {
+            line: 0,
+            kind: Kind::TooLong,
+        });
+    }
+    match split_lines(alloc, bytes) {
+        Ok(text) => read_lines(alloc, &text),
+        Err(fault) => Err(lines_told(fault)),
+    }
+}

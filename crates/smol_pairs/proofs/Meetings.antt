@@ -1,0 +1,216 @@
+-- The pairs that encounters make.
+use Rattle.std.proofs.Common.{◌≡◌, ℕ, zero, suc, ◌+◌, ◌<◌, ◌≤◌, Bool, true, false, ◌&&◌, List, [], ◌∷◌, ◌++◌, length, get_or, drop, map, All, Option, Some, None, refl, sym, ap, subst, ◌∙◌, arith, append_assoc, append-nil, drop-cons, add-one}
+use Rattle.std.specs.Prelude.{if◌then◌else◌, is_some, filter, Contains}
+use Rattle.std.specs.List.{list_any}
+use Rattle.std.proofs.lemmas.Bool.{or_parts}
+use Rattle.std.proofs.lemmas.List.{drop_all, get_or-map, map-append}
+use Rattle.std.proofs.lemmas.List.Elements.{All-nil, All-cons, All-append, All-head, All-tail, All-weaker, Contains-append_left, Contains-append_right, Contains-push}
+use Rattle.smol_num.specs.declared.quantities.Micro.{Micro}
+use Rattle.smol_types.specs.declared.draft.Draft.{Draft}
+use Rattle.smol_types.specs.declared.reaction.Reaction.{Reaction}
+use Rattle.smol_types.specs.declared.state.Mol.{Mol}
+use Rattle.smol_types.specs.State.{Ascend}
+use Rattle.smol_types.specs.Reactions.{reacts_together}
+use Rattle.smol_plan.specs.declared.pair.Pair.{Pair}
+use Rattle.smol_plan.specs.Pair.{IsOrdered}
+use Rattle.smol_meaning.specs.Encounters.{Encounter, are_near, candidates_of, encounters_from, encounters_of, encounters_of_two, encounters_with, may_react, pair_of}
+use Rattle.smol_meaning.specs.Events.{is_free}
+use Rattle.smol_pairs.specs.Moved.{IsAmong, free_serials}
+
+-- where encounters come before others, or are left out, the pairs are those so far and those of the others
+pub pairs_taken : (here there all : List Encounter) (taken : Bool) (so_far new : List Pair) → all ≡ (if taken then here else []) ++ there → taken ≡ true
+    → new ≡ so_far ++ map pair_of here → new ++ map pair_of there ≡ so_far ++ map pair_of all
+pairs_taken here there all true so_far new is taken added =
+    ap (λ (pairs : List Pair). pairs ++ map pair_of there) added ∙ append_assoc so_far (map pair_of here) (map pair_of there)
+    ∙ ap (λ (pairs : List Pair). so_far ++ pairs) (sym (map-append pair_of here there) ∙ ap (map pair_of) (sym is))
+pairs_taken here there all false so_far new is taken added = absurd (cc)
+
+pub pairs_passed : (here there all : List Encounter) (taken : Bool) (so_far : List Pair) → all ≡ (if taken then here else []) ++ there → taken ≡ false
+    → so_far ++ map pair_of there ≡ so_far ++ map pair_of all
+pairs_passed here there all true so_far is taken = absurd (cc)
+pairs_passed here there all false so_far is taken = ap (λ (encounters : List Encounter). so_far ++ map pair_of encounters) (sym is)
+
+module _ (draft : Draft) (seed k : ℕ) where
+  -- the encounters of a molecule with those that are left, the next one first
+  pub with_next : (rank_a : ℕ) (a : Mol) (rank : ℕ) (mols : List Mol) (d : Mol) → rank < length mols
+      → encounters_with draft seed k rank_a a rank (drop rank mols)
+      ≡ (if is_free draft seed k (get_or mols rank d) then encounters_of_two draft seed k rank_a a rank (get_or mols rank d) 0 draft.reactions else [])
+      ++ encounters_with draft seed k rank_a a (rank + 1) (drop (rank + 1) mols)
+  with_next rank_a a rank mols d more =
+      let split : drop rank mols ≡ get_or mols rank d ∷ drop (rank + 1) mols = rw (add-one, drop-cons mols rank d) refl in
+      ap (λ (left : List Mol). encounters_with draft seed k rank_a a rank left) split
+
+  -- the encounters among those that are left, those of the next one first
+  pub from_next : (rank : ℕ) (mols : List Mol) (d : Mol) → rank < length mols
+      → encounters_from draft seed k rank (drop rank mols)
+      ≡ (if is_free draft seed k (get_or mols rank d) then encounters_with draft seed k rank (get_or mols rank d) (rank + 1) (drop (rank + 1) mols) else [])
+      ++ encounters_from draft seed k (rank + 1) (drop (rank + 1) mols)
+  from_next rank mols d more =
+      let split : drop rank mols ≡ get_or mols rank d ∷ drop (rank + 1) mols = rw (add-one, drop-cons mols rank d) refl in
+      ap (λ (left : List Mol). encounters_from draft seed k rank left) split
+
+  -- what is said of a molecule that is free
+  pub free_there : (free : List Bool) (mols : List Mol) (rank : ℕ) (d : Mol) → free ≡ map (is_free draft seed k) mols → rank < length mols
+      → get_or free rank false ≡ is_free draft seed k (get_or mols rank d)
+  free_there free mols rank d is within =
+      ap (λ (free : List Bool). get_or free rank false) is ∙ get_or-map (is_free draft seed k) mols rank d false within
+
+  -- where none are left, all are there
+  pub none_left : (rank : ℕ) (mols : List Mol) (pairs : List Pair) → length mols ≤ rank
+      → pairs ++ map pair_of (encounters_from draft seed k rank (drop rank mols)) ≡ map pair_of (encounters_from draft seed k 0 mols)
+      → pairs ≡ candidates_of draft seed k mols
+  unfolding encounters_of
+  none_left rank mols pairs past is =
+      let none : drop rank mols ≡ [] = drop_all rank mols past in
+      sym (append-nil pairs) ∙ sym (ap (λ (left : List Mol). pairs ++ map pair_of (encounters_from draft seed k rank left)) none) ∙ is
+
+  -- without a radius no two molecules react
+  never_near : (reaction : Reaction) (e : Encounter) → is_some reaction.radius ≡ false → may_react draft seed k reaction e ≡ false
+  never_near reaction e none = cases (reacts_together e.a.species e.b.species reaction.reactants) reaction.radius _ none
+    where
+      cases : (b : Bool) (radius : Option Micro) (rest : Bool) → is_some radius ≡ false
+          → (b && (are_near radius e.a.place e.b.place && rest)) ≡ false
+      cases true None rest none = refl
+      cases false None rest none = refl
+      cases b (Some radius) rest none = absurd (cc)
+
+  none_of_two : (rank_a : ℕ) (a : Mol) (rank_b : ℕ) (b : Mol) (number : ℕ) (reactions : List Reaction)
+      → list_any (λ (reaction : Reaction). is_some reaction.radius) reactions ≡ false
+      → encounters_of_two draft seed k rank_a a rank_b b number reactions ≡ []
+  none_of_two rank_a a rank_b b number [] none = refl
+  none_of_two rank_a a rank_b b number (reaction ∷ reactions) none =
+      let parts = or_parts (is_some reaction.radius) (list_any (λ (reaction : Reaction). is_some reaction.radius) reactions) none in
+      let e : Encounter = record { a = a; b = b; rank_a = rank_a; rank_b = rank_b; reaction = number } in
+      let rest = encounters_of_two draft seed k rank_a a rank_b b (number + 1) reactions in
+      ap (λ (here : Bool). if here then e ∷ rest else rest) (never_near reaction e parts.0)
+      ∙ none_of_two rank_a a rank_b b (number + 1) reactions parts.1
+
+  left_out : (taken : Bool) (here there : List Encounter) → here ≡ [] → there ≡ [] → (if taken then here else []) ++ there ≡ []
+  left_out true here there none rest = (λ i. none i ++ rest i)
+  left_out false here there none rest = rest
+
+  none_with : (rank_a : ℕ) (a : Mol) (rank : ℕ) (mols : List Mol)
+      → list_any (λ (reaction : Reaction). is_some reaction.radius) draft.reactions ≡ false
+      → encounters_with draft seed k rank_a a rank mols ≡ []
+  none_with rank_a a rank [] none = refl
+  none_with rank_a a rank (b ∷ mols) none =
+      left_out (is_free draft seed k b) _ _ (none_of_two rank_a a rank b 0 draft.reactions none) (none_with rank_a a (rank + 1) mols none)
+
+  none_from : (rank : ℕ) (mols : List Mol) → list_any (λ (reaction : Reaction). is_some reaction.radius) draft.reactions ≡ false
+      → encounters_from draft seed k rank mols ≡ []
+  none_from rank [] none = refl
+  none_from rank (a ∷ mols) none =
+      left_out (is_free draft seed k a) _ _ (none_with rank a (rank + 1) mols none) (none_from (rank + 1) mols none)
+
+  pub no_candidates : (mols : List Mol) → list_any (λ (reaction : Reaction). is_some reaction.radius) draft.reactions ≡ false
+      → candidates_of draft seed k mols ≡ []
+  unfolding encounters_of
+  no_candidates mols none = ap (map pair_of) (none_from 0 mols none)
+
+  module _ (P : Pair → Type 0) where
+    all_taken : (taken : Bool) (encounters : List Encounter) → (taken ≡ true → All P (map pair_of encounters))
+        → All P (map pair_of (if taken then encounters else []))
+    all_taken true encounters each = each refl
+    all_taken false encounters each = All-nil P
+
+    all_both : (xs ys : List Encounter) → All P (map pair_of xs) → All P (map pair_of ys) → All P (map pair_of (xs ++ ys))
+    all_both xs ys front back = subst (All P) (sym (map-append pair_of xs ys)) (All-append P (map pair_of xs) (map pair_of ys) front back)
+
+    -- what holds of two molecules whatever the reaction
+    abbrev OfTwo : Mol → Mol → Type 0
+    OfTwo a b = (reaction : ℕ) → P (record { a = a.serial; b = b.serial; reaction = reaction })
+
+    each_of_two : (rank_a : ℕ) (a : Mol) (rank_b : ℕ) (b : Mol) (number : ℕ) (reactions : List Reaction) → OfTwo a b
+        → All P (map pair_of (encounters_of_two draft seed k rank_a a rank_b b number reactions))
+    each_of_two rank_a a rank_b b number [] of = All-nil P
+    each_of_two rank_a a rank_b b number (reaction ∷ reactions) of =
+        let e : Encounter = record { a = a; b = b; rank_a = rank_a; rank_b = rank_b; reaction = number } in
+        let rest = each_of_two rank_a a rank_b b (number + 1) reactions of in
+        choose (may_react draft seed k reaction e) e (encounters_of_two draft seed k rank_a a rank_b b (number + 1) reactions) (of number) rest
+      where
+        choose : (here : Bool) (e : Encounter) (rest : List Encounter) → P (pair_of e) → All P (map pair_of rest)
+            → All P (map pair_of (if here then e ∷ rest else rest))
+        choose true e rest first others = All-cons P (pair_of e) (map pair_of rest) first others
+        choose false e rest first others = others
+
+    -- and of a molecule and those that it may meet
+    abbrev WithFree : Mol → Mol → Type 0
+    WithFree a b = is_free draft seed k b ≡ true → OfTwo a b
+
+    each_with : (rank_a : ℕ) (a : Mol) (rank : ℕ) (mols : List Mol) → All (WithFree a) mols
+        → All P (map pair_of (encounters_with draft seed k rank_a a rank mols))
+    each_with rank_a a rank [] of = All-nil P
+    each_with rank_a a rank (b ∷ mols) of =
+        all_both _ (encounters_with draft seed k rank_a a (rank + 1) mols)
+        (all_taken (is_free draft seed k b) (encounters_of_two draft seed k rank_a a rank b 0 draft.reactions)
+        (λ free. each_of_two rank_a a rank b 0 draft.reactions (All-head (WithFree a) b mols of free)))
+        (each_with rank_a a (rank + 1) mols (All-tail (WithFree a) b mols of))
+
+    -- and of each two that may meet
+    abbrev OfEachTwo : List Mol → Type 0
+    OfEachTwo [] = Unit {0}
+    OfEachTwo (a ∷ mols) = (is_free draft seed k a ≡ true → All (WithFree a) mols) × OfEachTwo mols
+
+    each_from : (rank : ℕ) (mols : List Mol) → OfEachTwo mols → All P (map pair_of (encounters_from draft seed k rank mols))
+    each_from rank [] of = All-nil P
+    each_from rank (a ∷ mols) of =
+        all_both _ (encounters_from draft seed k (rank + 1) mols)
+        (all_taken (is_free draft seed k a) (encounters_with draft seed k rank a (rank + 1) mols) (λ free. each_with rank a (rank + 1) mols (of.0 free)))
+        (each_from (rank + 1) mols of.1)
+
+  ascend_above : (low next : ℕ) (mols : List Mol) → Ascend low next mols → All (λ (mol : Mol). low ≤ mol.serial) mols
+  ascend_above low next [] up = All-nil (λ (mol : Mol). low ≤ mol.serial)
+  ascend_above low next (mol ∷ mols) up =
+      All-cons (λ (mol : Mol). low ≤ mol.serial) mol mols up.0
+      (All-weaker (λ (other : Mol). mol.serial + 1 ≤ other.serial) (λ (other : Mol). low ≤ other.serial) (λ other above. omega (arith, up.0, above)) mols
+      (ascend_above (mol.serial + 1) next mols up.1))
+
+  each_ordered : (low next : ℕ) (mols : List Mol) → Ascend low next mols → OfEachTwo (λ (pair : Pair). pair.a < pair.b) mols
+  each_ordered low next [] up = tt
+  each_ordered low next (a ∷ mols) up = (
+    λ free. All-weaker (λ (b : Mol). a.serial + 1 ≤ b.serial) (WithFree (λ (pair : Pair). pair.a < pair.b) a)
+        (λ b above free reaction. omega (arith, above)) mols (ascend_above (a.serial + 1) next mols up.1),
+    each_ordered (a.serial + 1) next mols up.1,
+  )
+
+  -- the lower serial comes first
+  pub candidates_ordered : (low next : ℕ) (mols : List Mol) → Ascend low next mols → IsOrdered (candidates_of draft seed k mols)
+  unfolding encounters_of
+  candidates_ordered low next mols up = each_from (λ (pair : Pair). pair.a < pair.b) 0 mols (each_ordered low next mols up)
+
+  -- a molecule that made no reaction alone has one of the serials of those
+  abbrev HasFree : List ℕ → Mol → Type 0
+  HasFree serials mol = is_free draft seed k mol ≡ true → Contains serials mol.serial
+
+  more_serials : (mol : Mol) (taken : Bool) (mols : List Mol) (serial : ℕ) → Contains (map (λ (mol : Mol). mol.serial) mols) serial
+      → Contains (map (λ (mol : Mol). mol.serial) (if taken then mol ∷ mols else mols)) serial
+  more_serials mol true mols serial has = Contains-append_right (mol.serial ∷ []) (map (λ (mol : Mol). mol.serial) mols) serial has
+  more_serials mol false mols serial has = has
+
+  first_serial : (mol : Mol) (taken : Bool) (mols : List Mol) → taken ≡ true
+      → Contains (map (λ (mol : Mol). mol.serial) (if taken then mol ∷ mols else mols)) mol.serial
+  first_serial mol true mols is = Contains-append_left (mol.serial ∷ []) (map (λ (mol : Mol). mol.serial) mols) mol.serial (Contains-push [] mol.serial)
+  first_serial mol false mols is = absurd (cc)
+
+  each_free : (mols : List Mol) → All (HasFree (free_serials draft seed k mols)) mols
+  each_free [] = All-nil (HasFree [])
+  each_free (mol ∷ mols) =
+      let taken = is_free draft seed k mol in
+      let serials = free_serials draft seed k (mol ∷ mols) in
+      All-cons (HasFree serials) mol mols (first_serial mol taken (filter (is_free draft seed k) mols))
+      (All-weaker (HasFree (free_serials draft seed k mols)) (HasFree serials)
+      (λ other has free. more_serials mol taken (filter (is_free draft seed k) mols) other.serial (has free)) mols (each_free mols))
+
+  each_among : (all mols : List Mol) → All (HasFree (free_serials draft seed k all)) mols → OfEachTwo (IsAmong draft seed k all) mols
+  each_among all [] has = tt
+  each_among all (a ∷ mols) has =
+      let H = HasFree (free_serials draft seed k all) in (
+        λ free. All-weaker H (WithFree (IsAmong draft seed k all) a)
+            (λ b has_b free_b reaction. record { a = All-head H a mols has free; b = has_b free_b }) mols (All-tail H a mols has),
+        each_among all mols (All-tail H a mols has),
+      )
+
+  -- both molecules of a candidate made no reaction alone
+  pub candidates_among : (mols : List Mol) → All (IsAmong draft seed k mols) (candidates_of draft seed k mols)
+  unfolding encounters_of
+  candidates_among mols = each_from (IsAmong draft seed k mols) 0 mols (each_among mols mols (each_free mols))

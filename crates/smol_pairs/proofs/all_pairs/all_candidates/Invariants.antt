@@ -1,0 +1,11 @@
+use Rattle.std.proofs.Common.{◌≡◌, ◌++◌, drop, map}
+use Rattle.smol_meaning.specs.Encounters.{encounters_from, pair_of}
+use Rattle.smol_pairs.proofs.all_pairs.all_candidates.Given as goal
+
+-- the pairs so far and those among the molecules that are left
+abbrev pub invariant-loop-rank : goal.invariant-loop-rank
+invariant-loop-rank l = record {
+  pairs : l.pairs.items ++ map pair_of (encounters_from l.config l.streams l.k l.rank (drop l.rank l.mols))
+      ≡ map pair_of (encounters_from l.config l.streams l.k 0 l.mols);
+  seed : l.streams ≡ l.seed;
+}

@@ -1,0 +1,12 @@
+//! Which pairs of molecules may react in a step.
+#![tactic(auto)]
+
+mod all_pairs;
+mod hidden;
+mod meeting;
+mod near;
+mod ranked;
+#[cfg(test)]
+mod tests;
+
+pub use all_pairs::candidates;

@@ -1,0 +1,9 @@
+pub mod Parts
+pub mod Sides
+pub mod Judged
+pub mod Lists
+pub mod Passing
+pub mod SchemeLemmas
+pub mod MoreSaid
+pub mod TableLemmas
+pub mod Chances

@@ -1,0 +1,13 @@
+pub mod Answers
+pub mod Arrangement
+pub mod Numbered
+pub mod Reaction
+pub mod ReactionSaid
+pub mod BindingRadius
+pub mod ReactionProbability
+pub mod ProductPlacement
+pub mod Content
+pub mod Sound
+pub mod Statements
+pub mod Changes
+pub mod Table

@@ -1,0 +1,39 @@
+-- What a reader keeps of reactions. This is no part of what a text means.
+use Rattle.std.specs.Prelude.{◌≡◌, ◌<◌, ◌≤◌, List, [], ◌∷◌, length, All, Result, Ok, Err}
+use Rattle.smol_types.specs.declared.fault.Kind.{Kind}
+use Rattle.smol_types.specs.Limits.{most_reactions}
+use Rattle.smol_line.specs.declared.refusal.Refusal.{Refusal}
+use Rattle.smol_line.specs.declared.refusal.Refusal.TheVariants.{At, OutOfMemory}
+use Rattle.smol_reactions.specs.declared.reactions.Reactions.{Reactions}
+use Rattle.smol_reactions.specs.Reaction.{names_of, HasFewProducts}
+use Rattle.smol_reactions.specs.ReactionSaid.{ReactionSaid, reacts, binds, happens, places}
+use Rattle.smol_reactions.specs.Content.{schemes_of, reactions_of, kinds_of, chances_of}
+
+-- each of these that isn't a reaction says of one before it
+abbrev pub AreOrdered : List ReactionSaid → Type 0
+AreOrdered [] = Unit {0}
+AreOrdered (reacts scheme ∷ before) = AreOrdered before
+AreOrdered (binds number radius ∷ before) = (number < length (schemes_of before)) × AreOrdered before
+AreOrdered (happens number chance ∷ before) = (number < length (schemes_of before)) × AreOrdered before
+AreOrdered (places number placement ∷ before) = (number < length (schemes_of before)) × AreOrdered before
+
+-- the table is what these say of reactions
+pub record Holds (table : Reactions) (said : List ReactionSaid) : Type 0 where
+  pub list : table.list.items ≡ reactions_of said
+  pub kinds : table.kinds.items ≡ kinds_of said
+  pub chances : table.chances.items ≡ chances_of said
+  pub ordered : AreOrdered said
+
+-- the parts of the table fit each other
+pub record IsKept (table : Reactions) : Type 0 where
+  pub names : table.names ≡ names_of table.list.items
+  pub kinds : length table.kinds.items ≡ length table.list.items
+  pub chances : length table.chances.items ≡ length table.list.items
+  pub products : All HasFewProducts table.list.items
+  pub few : length table.list.items ≤ most_reactions
+
+-- how the reading of a line ends: it is taken and the table holds what it says too, or its fault is said, or memory ran out
+abbrev pub Reads : {T : Type 0} → (List ReactionSaid → Result ReactionSaid Kind) → Reactions → Reactions → Result T Refusal → Type 0
+Reads rule old new (Ok done) = (said : List ReactionSaid) → Holds old said → (more : ReactionSaid) × (rule said ≡ Ok more) × Holds new (more ∷ said)
+Reads rule old new (Err (At kind)) = (said : List ReactionSaid) → Holds old said → rule said ≡ Err kind
+Reads rule old new (Err OutOfMemory) = Unit {0}

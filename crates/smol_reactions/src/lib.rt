@@ -1,0 +1,18 @@
+//! The statements on reactions: what a line means, and what the lines together say.
+#![tactic(auto)]
+
+mod arrangement;
+mod binding_radius;
+mod law;
+mod product_placement;
+mod reaction;
+mod reaction_probability;
+mod reactions;
+mod scheme;
+#[cfg(test)]
+mod tests;
+
+pub use law::probabilities_share_the_words;
+pub use product_placement::{PlacementKind, ProductPlacement};
+pub use reactions::Reactions;
+pub use scheme::Scheme;

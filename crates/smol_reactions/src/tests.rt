@@ -1,0 +1,278 @@
+//! What lines on reactions say together, and the fault of each line that is refused.
+ghost use Rattle.std.specs.Prelude.{◌+◌, ◌≤◌, length, OnOk, IfOk};
+ghost use Rattle.smol_reactions.specs.Table.{IsKept};
+
+use crate::Reactions;
+use smol_geom::Step3;
+use smol_line::{NameSet, Refusal, spells, word_at};
+use smol_num::{Micro, Threshold};
+use smol_text::{StatedLine, Text, split_lines};
+use smol_types::{Kind, Placement};
+use std::alloc::{AllocError, Global};
+use std::test::Fail;
+
+// Lines, and the fault of the last one, with three axes in use and the species A, B, C, product_1 and product_0.
+const REFUSED: [(&str, Kind); 62] = [
+    // The number of words, and the name.
+    ("reaction", Kind::WrongWordCount),
+    ("reaction r A ->", Kind::WrongWordCount),
+    ("reaction 1 x y z", Kind::NotInProfile),
+    ("reaction all A -> B", Kind::NotInProfile),
+    ("reaction r A -> B\nreaction r x y z", Kind::RepeatedName),
+    // No arrow.
+    ("reaction r A B C", Kind::BadReaction),
+    ("reaction r 0 + A 0", Kind::BadReaction),
+    // LEFT.
+    ("reaction r 0 -> -> ->", Kind::NotInProfile),
+    ("reaction r 0 -> B C", Kind::NotInProfile),
+    ("reaction r -> A + B", Kind::BadReaction),
+    ("reaction r A B -> C", Kind::BadReaction),
+    ("reaction r A + -> C", Kind::BadReaction),
+    ("reaction r + A -> C", Kind::BadReaction),
+    ("reaction r 0 + A -> B", Kind::BadReaction),
+    ("reaction r A + 0 -> B", Kind::BadReaction),
+    ("reaction r A + B + C -> 0", Kind::BadReaction),
+    ("reaction r A + B C -> 0", Kind::BadReaction),
+    // RIGHT.
+    ("reaction r A + B ->", Kind::BadReaction),
+    ("reaction r A -> + B", Kind::BadReaction),
+    ("reaction r A -> B +", Kind::BadReaction),
+    ("reaction r A -> B + 0", Kind::BadReaction),
+    ("reaction r A -> 0 + B", Kind::BadReaction),
+    ("reaction r A -> B C A", Kind::BadReaction),
+    ("reaction r A -> B ->", Kind::BadReaction),
+    ("reaction r A -> B -> C", Kind::BadReaction),
+    ("reaction r A -> 0 -> 0", Kind::BadReaction),
+    // A rate comes before the species words.
+    ("reaction r Z -> B 0.5", Kind::NotInProfile),
+    ("reaction r A -> 0 0", Kind::NotInProfile),
+    ("reaction r A -> B 0", Kind::NotInProfile),
+    ("reaction r A -> B + C all", Kind::NotInProfile),
+    // Species words.
+    ("reaction r A -> all", Kind::UnknownName),
+    ("reaction r Z + A(x) -> B", Kind::UnknownName),
+    ("reaction r A(x) + Z -> B", Kind::NotInProfile),
+    ("reaction r A -> B + Z", Kind::UnknownName),
+    (
+        "reaction r A -> A + A + A + A + A + A + A + A + A + A + A + A + A + A + A + A + A",
+        Kind::TooMany,
+    ),
+    // `binding_radius`.
+    ("binding_radius r", Kind::WrongWordCount),
+    ("binding_radius r 1", Kind::UnknownName),
+    ("reaction r A -> B\nbinding_radius r abc", Kind::BadReaction),
+    (
+        "reaction r A + B -> 0\nbinding_radius r abc",
+        Kind::NotNumber,
+    ),
+    (
+        "reaction r A + B -> 0\nbinding_radius r 0.0000001",
+        Kind::TooFine,
+    ),
+    (
+        "reaction r A + B -> 0\nbinding_radius r 1000.000001",
+        Kind::OutOfRange,
+    ),
+    (
+        "reaction r A + B -> 0\nbinding_radius r -1",
+        Kind::OutOfRange,
+    ),
+    // `reaction_probability`.
+    ("reaction_probability r 1 1", Kind::WrongWordCount),
+    ("reaction_probability r 2", Kind::UnknownName),
+    (
+        "reaction r A -> B\nreaction_probability r 1.000000001",
+        Kind::OutOfRange,
+    ),
+    (
+        "reaction r A -> B\nreaction_probability r 1e-10",
+        Kind::TooFine,
+    ),
+    // `product_placement`.
+    ("product_placement r", Kind::WrongWordCount),
+    ("product_placement r irrev", Kind::NotInProfile),
+    ("product_placement r offset A", Kind::WrongWordCount),
+    ("product_placement r unbindrad", Kind::WrongWordCount),
+    ("product_placement r unbindrad x", Kind::UnknownName),
+    (
+        "reaction r A -> B\nproduct_placement r unbindrad x",
+        Kind::BadReaction,
+    ),
+    (
+        "reaction r A -> B + C\nproduct_placement r offset B 1 1 1\nproduct_placement r unbindrad x",
+        Kind::BadReaction,
+    ),
+    (
+        "reaction r A -> B + C\nproduct_placement r unbindrad 0\nproduct_placement r offset Z 1 1 1",
+        Kind::BadReaction,
+    ),
+    (
+        "reaction r A -> B + C\nproduct_placement r unbindrad 1000.000001",
+        Kind::OutOfRange,
+    ),
+    (
+        "reaction r A -> B\nproduct_placement r offset A 1 1 1",
+        Kind::UnknownName,
+    ),
+    (
+        "reaction r A -> B\nproduct_placement r offset product_2 x 1 1",
+        Kind::UnknownName,
+    ),
+    (
+        "reaction r A -> product_1\nproduct_placement r offset product_0 1 1 1",
+        Kind::UnknownName,
+    ),
+    (
+        "reaction r A -> B\nproduct_placement r offset product_99999999999999999999 1 1 1",
+        Kind::UnknownName,
+    ),
+    (
+        "reaction r A -> B\nproduct_placement r offset all 1 1 1",
+        Kind::UnknownName,
+    ),
+    (
+        "reaction r A -> B\nproduct_placement r offset B x 1 1001",
+        Kind::NotNumber,
+    ),
+    (
+        "reaction r A -> B\nproduct_placement r offset B 1 1001 x",
+        Kind::OutOfRange,
+    ),
+];
+
+// The species of the tests.
+const SPECIES: [&str; 5] = ["A", "B", "C", "product_1", "product_0"];
+
+fn add_new(alloc: Global, names: &mut NameSet, name: &str) -> Result<(), AllocError>
+    ensures { OnOk result (length names.new ≤ length names.old + 1) }
+{
+    if names.number_of(name.as_bytes()).is_none() {
+        names.add(alloc, name)?;
+    }
+    Ok(())
+}
+
+fn species_of(alloc: Global) -> Result<NameSet, AllocError>
+    ensures { IfOk result (λ names. length names ≤ 256) }
+{
+    let mut names = NameSet::new(alloc);
+    for i in 0..5 {
+        add_new(alloc, &mut names, SPECIES[i])?;
+    }
+    Ok(names)
+}
+
+fn read_line(
+    alloc: Global,
+    table: &mut Reactions,
+    species: &NameSet,
+    line: &StatedLine<'_>,
+) -> Result<(), Refusal>
+    requires species { length species.now ≤ 256 }
+    requires kept { IsKept table.old }
+    ensures { OnOk result (IsKept table.new) }
+{
+    let word = word_at(line, 0);
+    if spells(word, "reaction") {
+        table.read_reaction(alloc, species, line)
+    } else if spells(word, "binding_radius") {
+        table.read_binding_radius(line)
+    } else if spells(word, "reaction_probability") {
+        table.read_reaction_probability(line)
+    } else {
+        table.read_product_placement(alloc, Some(3), species, line)
+    }
+}
+
+fn read_lines(
+    alloc: Global,
+    table: &mut Reactions,
+    species: &NameSet,
+    text: &Text,
+) -> Result<(), Refusal>
+    requires species { length species.now ≤ 256 }
+    requires kept { IsKept table.old }
+    ensures { OnOk result (IsKept table.new) }
+{
+    for i in 0..text.len() {
+        read_line(alloc, table, species, &text.line(i))?;
+    }
+    Ok(())
+}
+
+// What these lines say.
+fn read(alloc: Global, lines: &str) -> Result<Reactions, Refusal>
+    ensures { IfOk result IsKept }
+{
+    if lines.len() > 4_194_304 {
+        return Err(Refusal::At(Kind::TooLong));
+    }
+    let Ok(text) = split_lines(alloc, lines.as_bytes()) else {
+        return Err(Refusal::OutOfMemory);
+    };
+    let species = species_of(alloc)?;
+    let mut table = Reactions::new(alloc);
+    read_lines(alloc, &mut table, &species, &text)?;
+    Ok(table)
+}
+
+#[test]
+fn lines_are_refused(rt: HostRuntime) {
+    for (lines, kind) in REFUSED {
+        let fault = read(rt.alloc(), lines).err();
+        assert_eq!(rt; fault, Some(Refusal::At(kind)), "{lines}");
+    }
+}
+
+// Two reactions, and lines of which the last ones count.
+const ACCEPTED: &str = "reaction split A(soln) -> B + A + product_1 + B
+reaction join A + product_1(all) -> 0
+reaction pair B -> A + A
+binding_radius join 1
+binding_radius join 0.000003
+reaction_probability split 1
+reaction_probability split 0.0000000015e1
+product_placement split offset product_1 1 -0.5 0.000001
+product_placement split offset B 2 -0.5 0.000001
+product_placement split offset product_4 0 1000 -1000
+product_placement split offset product_1(all) 1 1 1
+product_placement pair unbindrad 1
+product_placement pair unbindrad 3
+";
+
+#[test]
+fn the_nearest_lines_count(rt: HostRuntime) -> Result<(), Fail> {
+    let Ok(table) = read(rt.alloc(), ACCEPTED) else {
+        assert!(rt; false);
+        return Ok(());
+    };
+    let [split, join, pair] = table.list.as_slice() else {
+        assert!(rt; false);
+        return Ok(());
+    };
+    assert_eq!(rt; split.name.as_str(), "split");
+    assert_eq!(rt; (split.order, join.order, pair.order), (1, 2, 1));
+    assert_eq!(rt; split.reactants.as_slice(), [0].as_slice());
+    assert_eq!(rt; join.reactants.as_slice(), [0, 3].as_slice());
+    assert!(rt; join.products.is_empty());
+    assert_eq!(rt; (split.radius, join.radius), (None, Some(Micro(3))));
+    assert_eq!(rt; split.threshold, Threshold(64));
+    assert_eq!(rt;
+        (join.threshold, pair.threshold),
+        (Threshold(4_294_967_296), Threshold(0))
+    );
+    assert_eq!(rt; split.placement, Placement::Offsets);
+    assert_eq!(rt; pair.placement, Placement::Unbind(3_000_000));
+    let offsets = [
+        (1, Step3([4_000_000, -1_000_000, 2])),
+        (0, Step3([0, 0, 0])),
+        (3, Step3([2_000_000, 2_000_000, 2_000_000])),
+        (1, Step3([0, 2_000_000_000, -2_000_000_000])),
+    ];
+    for i in 0..4 {
+        let product = &split.products.as_slice()[i];
+        assert_eq!(rt; (product.species, product.offset), offsets[i]);
+    }
+    assert_eq!(rt; (table.chance_sum(0), table.chance_sum(1)), (15, 0));
+    Ok(())
+}

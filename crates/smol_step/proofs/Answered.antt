@@ -1,0 +1,25 @@
+-- What follows from what a step answers.
+use Rattle.std.proofs.Common.{◌+◌, ◌-◌, ◌≤◌, ℕ, Result, Ok, Err}
+use Rattle.std.specs.Prelude.{IfOk}
+use Rattle.smol_types.specs.declared.draft.Draft.{Draft}
+use Rattle.smol_types.specs.declared.state.State.{State}
+use Rattle.smol_types.specs.Limits.{last_serial}
+use Rattle.smol_types.specs.Sound.{IsSound}
+use Rattle.smol_types.specs.State.{Fits}
+use Rattle.smol_types.specs.Steps.{last_step}
+use Rattle.smol_meaning.specs.Step.{next_state}
+use Rattle.smol_meaning.proofs.Stepping.{next_fits, next_rises}
+use Rattle.smol_step.specs.declared.step_fault.StepFault.{StepFault}
+use Rattle.smol_step.specs.declared.step_fault.StepFault.TheVariants.{TooManyMolecules, OutOfMemory}
+use Rattle.smol_step.specs.Advance.{IsAnswer}
+
+module _ (draft : Draft) (seed : ℕ) (state : State) (sound : IsSound draft) (fits : Fits draft state) (more : state.step + 1 ≤ last_step draft.start draft.stop draft.step) where
+  pub answer_fits : state.next ≤ last_serial - 16000000 → (answer : Result State StepFault) → IsAnswer (next_state draft seed state) answer → IfOk answer (Fits draft)
+  answer_fits room (Ok next) is = next_fits draft seed state next sound fits more room is
+  answer_fits room (Err (TooManyMolecules found)) is = tt
+  answer_fits room (Err OutOfMemory) is = tt
+
+  pub answer_rises : (answer : Result State StepFault) → IsAnswer (next_state draft seed state) answer → IfOk answer (λ (after : State). after.next ≤ state.next + 16000000)
+  answer_rises (Ok next) is = next_rises draft seed state next sound fits more is
+  answer_rises (Err (TooManyMolecules found)) is = tt
+  answer_rises (Err OutOfMemory) is = tt

@@ -1,0 +1,7 @@
+mod Answered
+mod Freed
+mod InPlace
+mod Pairwise
+mod Radiusless
+mod Removed
+mod Still

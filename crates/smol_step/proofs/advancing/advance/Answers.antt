@@ -1,0 +1,82 @@
+use Rattle.std.proofs.Common.{◌≡◌, ◌≤◌, ◌+◌, ◌^◌, ℕ, All, List, Result, length, ap, sym, ◌∙◌, subst, arith}
+use Rattle.smol_types.specs.declared.state.Mol.{Mol}
+use Rattle.smol_types.specs.declared.state.State.{State}
+use Rattle.smol_types.specs.State.{Ascend}
+use Rattle.smol_meaning.specs.Motion.{all_diffused}
+use Rattle.smol_meaning.specs.Placed.{IsPlaced}
+use Rattle.smol_meaning.specs.Step.{next_state, reacted, within_limit}
+use Rattle.smol_meaning.proofs.Diffusing.{diffused_ascend}
+use Rattle.smol_meaning.proofs.Going.{step_crosses_none, step_stays_in_boxes}
+use Rattle.smol_meaning.proofs.Stepping.{diffused_few, diffused_near, mols_near}
+use Rattle.smol_step.specs.Advance.{IsAnswer}
+use Rattle.smol_step.proofs.Answered.{answer_fits, answer_rises}
+use Rattle.smol_step.proofs.advancing.advance.Goals as goal
+
+pub overflow_add-k : goal.overflow_add-k
+overflow_add-k g c = omega (arith, c.requires.further, c.max_mol-most.ensures.sound.steps)
+
+pub diffuse-requires-clause-placed : goal.diffuse-requires-clause-placed
+diffuse-requires-clause-placed g c =
+    let config = c.args.config.now in
+    let few : c.args.state.step ≤ 4000000 = omega (arith, c.requires.further, c.max_mol-most.ensures.sound.steps) in
+    subst (All (IsPlaced config (2 ^ 57))) (sym c.into_vec-mols.ensures) (mols_near config c.args.state c.requires.fits few)
+
+pub reacted-requires-clause-step : goal.reacted-requires-clause-step
+reacted-requires-clause-step g c = omega (arith, c.requires.further, c.max_mol-most.ensures.sound.steps)
+
+pub reacted-requires-clause-count : goal.reacted-requires-clause-count
+reacted-requires-clause-count g c _ _ =
+    let config = c.args.config.now in
+    let state = c.args.state in
+    let mols : c.diffuse.new.mols.items ≡ all_diffused config c.args.seed (state.step + 1) state.mols =
+    c.diffuse.ensures.moved ∙ (λ i. all_diffused config (c.of_seed.ensures i) (state.step + 1) (c.into_vec-mols.ensures i)) in
+    omega (arith, ap length mols, diffused_few config c.max_mol-most.ensures.sound c.args.seed state c.requires.fits)
+
+pub reacted-requires-clause-ascend : goal.reacted-requires-clause-ascend
+reacted-requires-clause-ascend g c _ _ =
+    let config = c.args.config.now in
+    let state = c.args.state in
+    let mols : c.diffuse.new.mols.items ≡ all_diffused config c.args.seed (state.step + 1) state.mols =
+    c.diffuse.ensures.moved ∙ (λ i. all_diffused config (c.of_seed.ensures i) (state.step + 1) (c.into_vec-mols.ensures i)) in
+    (state.next, subst (Ascend 0 state.next) (sym mols) (diffused_ascend config c.args.seed (state.step + 1) 0 state.next state.mols c.requires.fits.serials))
+
+pub reacted-requires-clause-placed : goal.reacted-requires-clause-placed
+reacted-requires-clause-placed g c _ _ =
+    let config = c.args.config.now in
+    let state = c.args.state in
+    let mols : c.diffuse.new.mols.items ≡ all_diffused config c.args.seed (state.step + 1) state.mols =
+    c.diffuse.ensures.moved ∙ (λ i. all_diffused config (c.of_seed.ensures i) (state.step + 1) (c.into_vec-mols.ensures i)) in
+    subst (All (IsPlaced config (2 ^ 57))) (sym mols) (diffused_near config c.max_mol-most.ensures.sound c.args.seed state c.requires.fits c.requires.further)
+
+pub returns-in-Ok-clause-answer : goal.returns-in-Ok-clause-answer
+unfolding next_state
+returns-in-Ok-clause-answer g c =
+    let config = c.args.config.now in
+    let state = c.args.state in
+    let mols : c.diffuse.new.mols.items ≡ all_diffused config c.args.seed (state.step + 1) state.mols =
+    c.diffuse.ensures.moved ∙ (λ i. all_diffused config (c.of_seed.ensures i) (state.step + 1) (c.into_vec-mols.ensures i)) in
+    let after : c.in-Ok.state ≡ reacted config c.args.seed (state.step + 1) (all_diffused config c.args.seed (state.step + 1) state.mols) state.next =
+    c.in-Ok.ensures ∙ ap (λ (mols : List Mol). reacted config c.args.seed (state.step + 1) mols state.next) mols in
+    subst (λ (expected : Result State ℕ). IsAnswer expected c.within_limit.result) (λ i. within_limit (c.max_mol-most.ensures.value i) (after i)) c.within_limit.ensures
+
+pub returns-in-Ok-clause-fits : goal.returns-in-Ok-clause-fits
+returns-in-Ok-clause-fits g c =
+    answer_fits c.args.config.now c.args.seed c.args.state c.max_mol-most.ensures.sound c.requires.fits c.requires.further c.requires.room c.within_limit.result (returns-in-Ok-clause-answer g c)
+
+pub returns-in-Ok-clause-serials : goal.returns-in-Ok-clause-serials
+returns-in-Ok-clause-serials g c =
+    answer_rises c.args.config.now c.args.seed c.args.state c.max_mol-most.ensures.sound c.requires.fits c.requires.further c.within_limit.result (returns-in-Ok-clause-answer g c)
+
+pub returns-in-Ok-clause-no_way_crosses : goal.returns-in-Ok-clause-no_way_crosses
+returns-in-Ok-clause-no_way_crosses g c = step_crosses_none c.args.config.now c.args.seed c.args.state
+
+pub returns-in-Ok-clause-ways_are_confined : goal.returns-in-Ok-clause-ways_are_confined
+returns-in-Ok-clause-ways_are_confined g c =
+    step_stays_in_boxes c.args.config.now c.args.seed c.args.state c.max_mol-most.ensures.sound c.requires.fits c.requires.further
+
+pub returns-in-Err-clause-no_way_crosses : goal.returns-in-Err-clause-no_way_crosses
+returns-in-Err-clause-no_way_crosses g c = step_crosses_none c.args.config.now c.args.seed c.args.state
+
+pub returns-in-Err-clause-ways_are_confined : goal.returns-in-Err-clause-ways_are_confined
+returns-in-Err-clause-ways_are_confined g c =
+    step_stays_in_boxes c.args.config.now c.args.seed c.args.state c.max_mol-most.ensures.sound c.requires.fits c.requires.further

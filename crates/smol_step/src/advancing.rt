@@ -1,0 +1,132 @@
+//! The state after a step.
+ghost use Rattle.std.specs.Prelude.{◌≡◌, ◌+◌, ◌-◌, ◌^◌, ◌≤◌, ℕ, All, IfOk, length, map};
+ghost use Rattle.smol_types.specs.Limits.{last_serial};
+ghost use Rattle.smol_types.specs.Sound.{IsSound};
+ghost use Rattle.smol_types.specs.State.{Ascend, Fits};
+ghost use Rattle.smol_types.specs.Steps.{last_step};
+ghost use Rattle.smol_meaning.specs.Placed.{IsPlaced};
+ghost use Rattle.smol_meaning.specs.Step.{events_of, moves_of, next_state, reacted, reactions_of_two, remains, within_limit};
+ghost use Rattle.smol_meaning.specs.Ways.{CrossesNoFace, StaysInBoxes};
+ghost use Rattle.smol_step.specs.Advance.{IsAnswer};
+ghost use Rattle.smol_step.specs.Radius.{HasNoRadius};
+
+use crate::alone::react_alone;
+use crate::candidates::no_candidates;
+use crate::motion::diffuse;
+use crate::newborn::add_newborn;
+use crate::reacting::Reacting;
+use crate::removal::keep_free;
+use crate::step_fault::StepFault;
+use crate::together::react_together;
+use smol_births::births;
+use smol_edge::Gate;
+use smol_plan::greedy;
+use smol_streams::Streams;
+use smol_travel::Panels;
+use smol_types::{Config, Items, Mol, State};
+use std::alloc::{AllocError, Global};
+use std::thread::Threads;
+
+// What reacts among the molecules after motion: first each alone, then each two that meet.
+fn react<R: Threads + Sync>(
+    _rt: &R,
+    alloc: Global,
+    config: &Config,
+    seed: u64,
+    k: u32,
+    mols: &[Mol],
+) -> Result<Reacting, AllocError>
+    requires no_radius { HasNoRadius config.now }
+    requires step { k ≤ 4000000 }
+    requires count { length mols.now ≤ 1000000 }
+    requires ascend { (next : ℕ) × Ascend 0 next mols.now }
+    requires placed { All (IsPlaced config.now (2 ^ 57)) mols.now }
+    ensures events { IfOk result (λ r. r.events.items ≡ events_of config.now seed k mols.now) }
+    ensures free { IfOk result
+        (λ r. r.free.items ≡ map (remains config.now seed k (reactions_of_two config.now seed k mols.now)) mols.now) }
+{
+    let mut streams = Streams::of_seed(seed);
+    let mut reacting = react_alone(alloc, config, &mut streams, k, mols)?;
+    let pairs = no_candidates(alloc);
+    let fired = greedy(alloc, &pairs)?;
+    react_together(config, &mut streams, k, mols, &pairs, &fired, &mut reacting)?;
+    Ok(reacting)
+}
+
+// The state after step k, whatever the limit, of these molecules after its motion.
+fn reacted<R: Threads + Sync>(
+    rt: &R,
+    alloc: Global,
+    config: &Config,
+    panels: &Panels,
+    seed: u64,
+    k: u32,
+    mols: Vec<Mol>,
+    next: u64,
+) -> Result<State, AllocError>
+    requires sound { IsSound config.now }
+    requires no_radius { HasNoRadius config.now }
+    requires panels { panels.now ≡ config.now }
+    requires step { k ≤ 4000000 }
+    requires count { length mols.items ≤ 1000000 }
+    requires ascend { (next : ℕ) × Ascend 0 next mols.items }
+    requires placed { All (IsPlaced config.now (2 ^ 57)) mols.items }
+    requires next { next ≤ last_serial }
+    ensures { IfOk result (λ state. state ≡ reacted config.now seed k mols.items next) }
+{
+    let mut mols = mols;
+    let reacting = react(rt, alloc, config, seed, k, &mols)?;
+    let births = births(alloc, config, &reacting.events, next)?;
+    keep_free(&mut mols, &reacting.free);
+    add_newborn(panels, &births, &mut mols)?;
+    Ok(State {
+        step: k,
+        mols: Items::from_vec(mols),
+        next: next + births.len() as u64,
+    })
+}
+
+// The state, where it has no more than so many molecules.
+fn within_limit(most: u32, state: State) -> Result<State, StepFault>
+    ensures { IsAnswer (within_limit most state) result }
+{
+    let found = state.mols.len() as u64;
+    if found > u64::from(most) {
+        return Err(StepFault::TooManyMolecules { found });
+    }
+    Ok(state)
+}
+
+/// Makes the step after this state.
+pub fn advance<R: Threads + Sync, G: Gate + Sync>(
+    rt: &R,
+    alloc: Global,
+    config: &Config,
+    panels: &Panels,
+    state: State,
+    seed: u64,
+    _workers: u32,
+    _gate: &G,
+) -> Result<State, StepFault>
+    // Reactions of two are to come.
+    requires no_radius { HasNoRadius config.now }
+    requires panels { panels.now ≡ config.now }
+    requires fits { Fits config.now state }
+    requires further { state.step + 1 ≤ last_step config.now.start config.now.stop config.now.step }
+    requires room { state.next ≤ last_serial - 16000000 }
+    ensures answer { IsAnswer (next_state config.now seed state) result }
+    ensures fits { IfOk result (Fits config.now) }
+    ensures serials { IfOk result (λ after. after.next ≤ state.next + 16000000) }
+    ensures no_way_crosses { All (CrossesNoFace config.now) (moves_of config.now seed state) }
+    ensures ways_are_confined { All (StaysInBoxes config.now) (moves_of config.now seed state) }
+{
+    let most = config.max_mol();
+    let State { step, mols, next } = state;
+    let k = step + 1;
+    let mut mols = mols.into_vec();
+    diffuse(config, panels, &mut Streams::of_seed(seed), k, &mut mols);
+    match reacted(rt, alloc, config, panels, seed, k, mols, next) {
+        Ok(state) => within_limit(most, state),
+        Err(AllocError) => Err(StepFault::OutOfMemory),
+    }
+}
