@@ -19,3 +19,4 @@ pub mod Sights
 pub mod Performing
 pub mod Going
 pub mod Courses
+pub mod DueTimes

@@ -23,3 +23,4 @@ pub mod Births
 pub mod Placed
 pub mod Folds
 pub mod Meeting
+pub mod FirstStep

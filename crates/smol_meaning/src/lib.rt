@@ -1,11 +1,13 @@
 //! What a run of a configuration means: its definitions, which the crates that run it cite, and laws about them.
 #![tactic(auto)]
 
+mod due;
 mod event;
 mod law;
 mod sight;
 mod way;
 
+pub use due::{a_time_is_due_at_its_first_step, times_are_due_at_their_first_steps};
 pub use event::{Birth, Fired};
 pub use law::{
     each_state_fits, no_way_crosses, no_way_of_a_run_crosses, ways_are_confined, ways_end_near,
