@@ -2,3 +2,5 @@ mod OnPages
 mod Joining
 mod Lone
 mod Phases
+mod StepsMade
+mod Whole

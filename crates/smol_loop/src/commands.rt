@@ -31,6 +31,7 @@ fn outlet_count(config: &Config) -> u32
 pub fn blank_pages(alloc: Global, config: &Config) -> Result<Pages, RunFault>
     ensures pages { IfOk result (λ pages. pages ≡ replicate (2 + length config.now.outputs) []) }
     ensures memory { OnErr result (result ≡ Err RunFault.OutOfMemory) }
+    ensures sound { IsSound config.now }
 {
     Ok(Pages::open(alloc, outlet_count(config))?)
 }

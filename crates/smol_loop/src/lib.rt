@@ -3,7 +3,9 @@
 
 mod commands;
 mod run_fault;
+mod simulation;
 mod stepping;
 mod writing;
 
 pub use run_fault::RunFault;
+pub use simulation::simulate;

@@ -1,4 +1,3 @@
-use smol_edge::Failed;
 use std::alloc::AllocError;
 use thiserror::Error;
 
@@ -27,17 +26,5 @@ impl From<AllocError> for RunFault {
 
     fn from(_: AllocError) -> RunFault {
         RunFault::OutOfMemory
-    }
-}
-
-// Only writes end so: names are opened before.
-impl From<Failed> for RunFault {
-    ghost use Rattle.std.specs.Prelude.{◌≡◌};
-    ghost use Rattle.smol_loop.specs.declared.run_fault.RunFault.TheVariants.{OutputFault};
-
-    ghost from_gives = { λ _ fault. fault ≡ OutputFault };
-
-    fn from(_: Failed) -> RunFault {
-        RunFault::OutputFault
     }
 }

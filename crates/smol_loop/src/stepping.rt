@@ -1,7 +1,8 @@
 //! The steps of a run, with the commands that are due between them.
 ghost use Rattle.std.specs.Prelude.{◌≡◌, ◌+◌, ◌*◌, ◌-◌, ◌≤◌, ◌<◌, [], IsErrOf, OnOk, length, replicate};
 ghost use Rattle.smol_edge.specs.Faults.{Tells};
-ghost use Rattle.smol_types.specs.Limits.{last_serial};
+ghost use Rattle.smol_types.specs.Limits.{last_serial, most_steps};
+ghost use Rattle.smol_types.specs.Sound.{IsSound};
 ghost use Rattle.smol_types.specs.State.{Fits};
 ghost use Rattle.smol_types.specs.Steps.{last_step};
 ghost use Rattle.smol_types.specs.declared.command.Phase.TheVariants as phase;
@@ -21,6 +22,14 @@ use std::alloc::Global;
 use std::mem;
 use std::thread::Threads;
 
+// How many steps a run makes.
+fn steps_of(config: &Config) -> u32
+    ensures count { result ≡ steps_of config.now }
+    ensures few { result ≤ most_steps }
+{
+    last_step(config.start(), config.stop(), config.step()) as u32
+}
+
 // Makes the step after a state.
 #[tactic(auto, unfolding(smol_meaning::specs::Run::step_of))]
 fn make_step<R: Threads + Sync, G: Gate + Sync>(
@@ -33,6 +42,7 @@ fn make_step<R: Threads + Sync, G: Gate + Sync>(
     gate: &G,
     state: &mut State,
 ) -> Result<Flow, RunFault>
+    requires sound { IsSound config.now }
     requires panels { panels.now ≡ config.now }
     requires fits { Fits config.now state.old }
     requires further { state.old.step + 1 ≤ last_step config.now.start config.now.stop config.now.step }
@@ -74,6 +84,7 @@ fn perform_and_step<R: Threads + Sync, K: Outlets, G: Gate + Sync>(
     pages: &mut Pages,
     outlets: &mut K,
 ) -> Result<Flow, RunFault>
+    requires sound { IsSound config.now }
     requires panels { panels.now ≡ config.now }
     requires fits { Fits config.now state.old }
     requires further { state.old.step + 1 ≤ last_step config.now.start config.now.stop config.now.step }
@@ -113,10 +124,11 @@ pub fn make_steps<R: Threads + Sync, K: Outlets, G: Gate + Sync>(
     pages: &mut Pages,
     outlets: &mut K,
 ) -> Result<Flow, RunFault>
+    requires sound { IsSound config.now }
     requires panels { panels.now ≡ config.now }
     requires fits { Fits config.now state.old }
     requires first { state.old.step ≡ 0 }
-    requires room { state.old.next + 1088512000000000 ≤ last_serial }
+    requires room { state.old.next + 1088000256000000 ≤ last_serial }
     requires seed { streams.old ≡ seed }
     requires blank { pages.old ≡ replicate (2 + length config.now.outputs) [] }
     requires opened { K.opened outlets.old ≡ length config.now.outputs }
@@ -124,13 +136,13 @@ pub fn make_steps<R: Threads + Sync, K: Outlets, G: Gate + Sync>(
     ensures ended { EndsPart (steps_from config.now seed (steps_of config.now) state.old) state.new result }
     ensures given { Tells (K.told outlets.old) (K.told outlets.new) (GivesPart (steps_from config.now seed (steps_of config.now) state.old).pieces result) }
     ensures fits { OnOk result (Fits config.now state.new) }
-    ensures serials { OnOk result (state.new.next ≤ state.old.next + 1088256000000000) }
+    ensures serials { OnOk result (state.new.next ≤ state.old.next + 1088000256000000) }
     ensures blank { OnOk result (pages.new ≡ replicate (2 + length config.now.outputs) []) }
     ensures opened { K.opened outlets.new ≡ K.opened outlets.old }
     ensures faults { CountsFault result (K.faults outlets.old) (K.faults outlets.new) }
     ensures seed { streams.new ≡ streams.old }
 {
-    let last = last_step(config.start(), config.stop(), config.step());
+    let last = steps_of(config);
     for _step in 0..last {
         match perform_and_step(rt, alloc, config, panels, seed, workers, gate, state, streams, pages, outlets) {
             Ok(Flow::Go) => {}

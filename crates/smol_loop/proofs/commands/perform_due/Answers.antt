@@ -125,7 +125,7 @@ returns-in-Err-clause-ended g c =
     let ended =
     subst (λ (s : ℕ). EndsPart (due_at config s phase c.loop-c.c c.loop-c.state) c.perform_if_due.new.state (Err c.in-Err.fault)) c.loop-c.invariant.seed
     c.in-Err.ensures.ended in
-    fault_ends so_far.done one (after_command config seed phase c.loop-c.c) _ c.perform_if_due.new.state _ c.in-Err.fault rest ended
+    fault_ends so_far.done one (after_command config seed phase c.loop-c.c) _ c.perform_if_due.new.state c.perform_if_due.new.state c.in-Err.fault rest ended
 
 pub returns-in-Err-clause-given : goal.returns-in-Err-clause-given
 unfolding phase_of
