@@ -1,5 +1,6 @@
 //! The name of a panel: the last word of its line, or one by the number of panels before it.
 ghost use Rattle.std.specs.Prelude.{◌≡◌, ◌≤◌, ◌++◌, ◌∷◌, ◌==◌, [], length, false, Ok, Err, IfOk, OnOk, string_bytes};
+ghost use Rattle.std.specs.Result.{IsOkAnd};
 ghost use Rattle.smol_types.specs.declared.fault.Kind.{Kind as TheKind};
 ghost use Rattle.smol_line.specs.declared.refusal.Refusal.TheVariants.{At};
 ghost use Rattle.smol_text.specs.Reading.{words_of};
@@ -63,4 +64,23 @@ fn add_given(
     )?;
     names.add(alloc, name)?;
     Ok(())
+}
+
+/// Adds the name of the panel of a line.
+pub fn add_name(
+    alloc: Global,
+    names: &mut NameSet,
+    dims: u8,
+    line: &StatedLine<'_>,
+) -> Result<(), Refusal>
+    requires least { 1 ≤ dims }
+    requires most { dims ≤ 3 }
+    ensures added { OnOk result (IsOkAnd (name_in dims names.old line.now) (λ name. names.new ≡ names.old ++ name ∷ [])) }
+    ensures refused { (kind : TheKind) → result ≡ Err (At kind) → name_in dims names.old line.now ≡ Err kind }
+{
+    if line.len() == 2 * usize::from(dims) + 2 {
+        add_default(alloc, names, dims, line)
+    } else {
+        add_given(alloc, names, dims, line)
+    }
 }

@@ -17,7 +17,6 @@ one_behind serial species place (suc n) =
 molecules_at-more : (serial species : ℕ) (place : Place) (n : ℕ) → molecules_at serial species place (n + 1) ≡ molecules_at serial species place n ++ record { serial = serial + n; species = species; place = place } ∷ []
 molecules_at-more serial species place n = ap (molecules_at serial species place) (add-one n) ∙ one_behind serial species place n
 
-
 -- one molecule more is added to a list
 pub one_more_added : (first species : ℕ) (place : Place) (i k : ℕ) (before so_far now : List Mol) → k ≡ i → so_far ≡ before ++ molecules_at first species place i → now ≡ so_far ++ record { serial = first + k; species = species; place = place } ∷ [] → now ≡ before ++ molecules_at first species place (i + 1)
 one_more_added first species place i k before so_far now same added pushed =

@@ -3,4 +3,4 @@ mod Marks
 mod SpeciesCounts
 mod Ranks
 mod Added
-mod Effects
+pub mod Effects

@@ -1,5 +1,5 @@
 -- The times at which a command is due that are a time apart.
-use Rattle.std.proofs.Common.{◌≡◌, ◌≤◌, ◌*◌, ◌/◌, ◌+◌, ℕ, zero, suc, ℤ, pos, negsuc, ◌≤ℤ◌, ◌<ℤ◌, ◌*ℤ◌, ◌+ℤ◌, ◌-ℤ◌, ◌<◌, ◌^◌, unsigned_abs, FitsSigned, to_z, of_z, w64, refl, arith}
+use Rattle.std.proofs.Common.{◌≡◌, ◌≤◌, ◌*◌, ◌/◌, ℕ, zero, suc, ℤ, pos, negsuc, ◌≤ℤ◌, ◌<ℤ◌, ◌*ℤ◌, ◌+ℤ◌, ◌-ℤ◌, unsigned_abs, FitsSigned, to_z, of_z, w64, refl, arith}
 use Rattle.std.specs.Int.{int_div_euclid}
 use Rattle.std.proofs.lemmas.Int.{ints}
 
@@ -35,8 +35,7 @@ pub product_is : (on t dt q : ℤ) → unsigned_abs on ≤ 1000000000000000000 �
 product_is on t dt q first last small_dt small_q begun apart is =
     let above : pos 0 ≤ℤ (t -ℤ on) = omega (arith, ints) in
     let same : to_z w64 (of_z w64 q) *ℤ to_z w64 (of_z w64 dt) ≡ int_div_euclid (t -ℤ on) dt *ℤ dt =
-    rw (as_it_is q small_q, as_it_is dt small_dt, is) refl in
-    (
+    rw (as_it_is q small_q, as_it_is dt small_dt, is) refl in (
       same,
       rw same (product_small on t (int_div_euclid (t -ℤ on) dt *ℤ dt) first last (mark_low (t -ℤ on) dt above apart) (mark_high (t -ℤ on) dt above apart)),
     )

@@ -1,6 +1,6 @@
 -- Molecules with their ranks.
-use Rattle.std.proofs.Common.{◌≡◌, ◌<◌, ◌≤◌, ℕ, zero, suc, ◌+◌, Bool, true, false, if◌then◌else◌, List, [], ◌∷◌, ◌++◌, length, get_or, set, take, drop, arith, refl, sym, ap, ◌∙◌, get_or-set_same}
-use Rattle.std.proofs.lemmas.List.{append-nil, append_assoc, length-set, take_all, take_more, take-set-le, drop_more, drop-set-lt, length-take-le}
+use Rattle.std.proofs.Common.{◌≡◌, ◌<◌, ◌≤◌, ℕ, ◌+◌, Bool, true, false, if◌then◌else◌, List, [], ◌∷◌, ◌++◌, length, get_or, set, take, drop, arith, sym, ap, ◌∙◌, get_or-set_same}
+use Rattle.std.proofs.lemmas.List.{append-nil, length-set, take_all, take_more, take-set-le, drop_more, drop-set-lt, length-take-le}
 use Rattle.smol_types.specs.declared.state.Mol.{Mol}
 use Rattle.smol_meaning.specs.Commands.{filter_ranked, map_ranked}
 

@@ -3,7 +3,6 @@ use Rattle.std.specs.Prelude.{◌≡◌, ℕ, ◌++◌, ◌<◌, List, [], lengt
 use Rattle.std.specs.Option.{option_map_or}
 use Rattle.smol_edge.specs.Outlets.{Piece, bytes_on}
 use Rattle.smol_types.specs.declared.draft.Draft.{Draft}
-use Rattle.smol_types.specs.declared.command.Command.{Command}
 use Rattle.smol_types.specs.declared.state.State.{State}
 use Rattle.smol_meaning.specs.Commands.{performed}
 use Rattle.smol_meaning.specs.Stretch.{Stretch, Ending, GoesOn, Stopped, idle}

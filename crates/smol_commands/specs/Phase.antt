@@ -1,5 +1,5 @@
 -- The phases that a run has.
-use Rattle.std.specs.Prelude.{ℕ, ◌≤◌}
+use Rattle.std.specs.Prelude.{◌≤◌}
 use Rattle.smol_types.specs.declared.draft.Draft.{Draft}
 use Rattle.smol_types.specs.declared.command.Phase.{Phase}
 use Rattle.smol_types.specs.declared.command.Phase.TheVariants.{Before, At, After}

@@ -1,5 +1,5 @@
 //! What a command does.
-ghost use Rattle.std.specs.Prelude.{◌≡◌, ◌+◌, ◌≤◌, ◌<◌, IfOk, IsErrOf, length};
+ghost use Rattle.std.specs.Prelude.{◌≡◌, ◌+◌, ◌≤◌, ◌<◌, IfOk, IsErrOf, OnOk, length};
 ghost use Rattle.smol_types.specs.Commands.{IsAct};
 ghost use Rattle.smol_types.specs.Limits.{last_serial};
 ghost use Rattle.smol_types.specs.Sound.{IsSound};
@@ -13,7 +13,9 @@ use crate::flow::Flow;
 use crate::hits::Chance;
 use crate::meant::all_hold;
 use crate::moves::{add_molecules, kill, kill_hit, replace_hit};
-use crate::printing::{print_counts, print_counts_inside, print_header, print_list, print_positions, print_text};
+use crate::printing::{
+    print_counts, print_counts_inside, print_header, print_list, print_positions, print_text,
+};
 use smol_print::Pages;
 use smol_streams::Streams;
 use smol_types::{Act, Config, State};
@@ -34,6 +36,8 @@ pub fn perform(
     requires pages { length out.old ≡ 2 + length config.now.outputs }
 
     ensures performed { IfOk result (Performs (performed_at config.now streams.old c state.old) state.new out.old out.new) }
+    ensures fits { OnOk result (Fits config.now state.new) }
+    ensures serials { OnOk result (state.new.next ≤ state.old.next + 1000000) }
     ensures too_many { IsErrOf result CommandFault.TooManyMolecules → (performed_at config.now streams.old c state.old).ending ≡ Over state.old.step }
     ensures unchanged { IsErrOf result CommandFault.TooManyMolecules → state.new ≡ state.old }
     ensures seed { streams.new ≡ streams.old }
@@ -69,21 +73,58 @@ fn act(
 {
     match act {
         Act::CountHeader { out: outlet } => print_header(config, *outlet, out)?,
-        Act::Count { out: outlet } => print_counts(alloc, config, state.step, state.mols.as_slice(), *outlet, out)?,
-        Act::CountIn { compartment, out: outlet } => print_counts_inside(alloc, config, *compartment, state.step, state.mols.as_slice(), *outlet, out)?,
+        Act::Count { out: outlet } => print_counts(
+            alloc,
+            config,
+            state.step,
+            state.mols.as_slice(),
+            *outlet,
+            out,
+        )?,
+        Act::CountIn {
+            compartment,
+            out: outlet,
+        } => print_counts_inside(
+            alloc,
+            config,
+            *compartment,
+            state.step,
+            state.mols.as_slice(),
+            *outlet,
+            out,
+        )?,
         Act::List { out: outlet } => print_list(config, state.mols.as_slice(), *outlet, out)?,
-        Act::Positions { who, out: outlet } => print_positions(config, state.step, state.mols.as_slice(), who.as_slice(), *outlet, out)?,
+        Act::Positions { who, out: outlet } => print_positions(
+            config,
+            state.step,
+            state.mols.as_slice(),
+            who.as_slice(),
+            *outlet,
+            out,
+        )?,
         Act::Echo { out: outlet, text } => print_text(text.as_slice(), *outlet, out)?,
         Act::Kill { who } => kill(alloc, who.as_slice(), state),
         Act::KillProb { who, p } => {
-            let chance = Chance { command: c, step: state.step, who: who.as_slice(), p: *p };
+            let chance = Chance {
+                command: c,
+                step: state.step,
+                who: who.as_slice(),
+                p: *p,
+            };
             kill_hit(alloc, &chance, streams, state);
         }
         Act::Replace { who, to, p } => {
-            let chance = Chance { command: c, step: state.step, who: who.as_slice(), p: *p };
+            let chance = Chance {
+                command: c,
+                step: state.step,
+                who: who.as_slice(),
+                p: *p,
+            };
             replace_hit(alloc, &chance, streams, *to, state);
         }
-        Act::PointSource { species, n, place } => add_molecules(alloc, config, *species, *n, place, state)?,
+        Act::PointSource { species, n, place } => add_molecules(
+            alloc, config, *species, *n, place, state,
+        )?,
         Act::Stop => return Ok(Flow::Stop),
     }
     Ok(Flow::Go)

@@ -49,7 +49,13 @@ pub fn kill_hit(alloc: Global, chance: &Chance, streams: &mut Streams, state: &m
 }
 
 /// Turns the molecules that are hit into another species.
-pub fn replace_hit(alloc: Global, chance: &Chance, streams: &mut Streams, to: u16, state: &mut State)
+pub fn replace_hit(
+    alloc: Global,
+    chance: &Chance,
+    streams: &mut Streams,
+    to: u16,
+    state: &mut State,
+)
     requires step { chance.now.step ≤ most_steps }
     requires few { length state.old.mols ≤ most_molecules }
     ensures turned { state.new ≡ with_mols state.old (map_ranked (λ rank mol. if is_hit streams.old chance.now.command chance.now.step chance.now.who.now chance.now.p rank mol then turned_into to mol else mol) 0 state.old.mols) }
@@ -87,7 +93,13 @@ pub fn add_molecules(
 }
 
 // Adds so many molecules with serials from this one on.
-fn add_at(mols: &mut Vec<Mol>, first: u64, species: u16, n: u32, place: &Place) -> Result<(), AllocError>
+fn add_at(
+    mols: &mut Vec<Mol>,
+    first: u64,
+    species: u16,
+    n: u32,
+    place: &Place,
+) -> Result<(), AllocError>
     requires { first + n < 2 ^ 64 }
     ensures { OnOk result (mols.new.items ≡ mols.old.items ++ molecules_at first species place.now n) }
 {

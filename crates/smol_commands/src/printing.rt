@@ -12,7 +12,9 @@ ghost use Rattle.smol_commands.specs.Performs.{Adds};
 use crate::counting::{counts_inside, counts_of};
 use crate::meant::is_meant;
 use crate::timing::time_of;
-use smol_print::{Pages, add_time, end_line, line_of_counts, line_of_header, line_of_mol, place_behind_space};
+use smol_print::{
+    Pages, add_time, end_line, line_of_counts, line_of_header, line_of_mol, place_behind_space,
+};
 use smol_types::{Config, Mol};
 use std::alloc::{AllocError, Global};
 
@@ -117,7 +119,13 @@ pub fn print_positions(
     requires step { step ≤ last_step config.now.start config.now.stop config.now.step }
     ensures { OnOk result (Adds ((outlet, positions_line config.now (time_of config.now step) (filter (is_meant who.now) mols.now)) ∷ []) out.old out.new) }
 {
-    add_positions(config, time_of(config, step), mols, who, out.page_mut(outlet))
+    add_positions(
+        config,
+        time_of(config, step),
+        mols,
+        who,
+        out.page_mut(outlet),
+    )
 }
 
 #[tactic(auto, unfolding(smol_meaning::specs::Lines::positions_line))]

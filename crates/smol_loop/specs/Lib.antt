@@ -1,1 +1,3 @@
 pub mod Simulation
+pub mod Parts
+pub mod Due

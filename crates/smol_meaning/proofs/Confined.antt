@@ -3,6 +3,7 @@ use Rattle.std.proofs.Common.{⊎_elim, ◌≡◌, ◌≢◌, ℕ, zero, suc, �
 use Rattle.std.specs.Prelude.{All}
 use Rattle.std.proofs.lemmas.Bool.{cases_Bool, cases_eq, cases_lt, cond_both, and_from, and_parts, eq-eqb, eqb-true, ne_eqb}
 use Rattle.std.proofs.lemmas.Int.{ints}
+use Rattle.std.proofs.Math.Nat.{mul-le-mul_left, mul-le-mul_right}
 use Rattle.smol_geom.specs.declared.place.Place.{Place}
 use Rattle.smol_geom.specs.declared.place.Step3.{Step3}
 use Rattle.smol_geom.specs.declared.moment.Moment.{Moment}
@@ -20,7 +21,8 @@ use Rattle.smol_geom.specs.Rect.{HoldsPoint, IsInRange, IsRect}
 use Rattle.smol_geom.proofs.Cells.{centre, ahead, IsCell, IsDouble, even_double, odd_half, direction, in_cell, cell_through, centre_turned, signed_size, plane_folded, mirrored_start, mirrored_way, end_centre}
 use Rattle.smol_geom.proofs.Counts.{Left, more, all_left, rest_left, at_odd, head_num, not_ahead, not_behind, m_is}
 use Rattle.smol_geom.proofs.EachAxis.{at_axis}
-use Rattle.smol_geom.proofs.Integers.{sums, mul_le_ℤ}
+use Rattle.smol_geom.proofs.Folds.{folded_point}
+use Rattle.smol_geom.proofs.Integers.{sums, mul_le_ℤ, cancel_mul_ℤ}
 use Rattle.smol_geom.proofs.Lists.{has_contained, contains_had, all_had}
 use Rattle.smol_geom.proofs.Ways.{above_low, below_high, same_range}
 use Rattle.smol_types.specs.declared.draft.Draft.{Draft}
@@ -29,7 +31,7 @@ use Rattle.smol_meaning.specs.declared.way.Response.{Response}
 use Rattle.smol_meaning.specs.declared.way.Response.TheVariants.{Reflect, Absorb, Jump, Pass}
 use Rattle.smol_meaning.specs.declared.way.Standing.{Standing}
 use Rattle.smol_meaning.specs.declared.way.Standing.TheVariants.{Goes, Gone}
-use Rattle.smol_meaning.specs.Box.{IsInside, IsInRegion, Covers, IsFaceShut, StaysPut, IsClosed, StaysInRegion, EndsInside, Confines}
+use Rattle.smol_meaning.specs.Box.{IsInside, IsInRegion, Covers, IsFaceShut, StaysPut, IsClosed, LiesFrom, StaysInRegion, EndsInside, Confines}
 use Rattle.smol_meaning.specs.Folds.{IsPlate, IsSheet}
 use Rattle.smol_meaning.specs.Moves.{IsMove}
 use Rattle.smol_meaning.specs.Plates.{Sheet, Rectangle, Plane, Plate, is_met, is_on, is_in_rect, goes_up, response_of, responses_met, precedence, deciding, done_by, plane_at, mirrored, sheet_axis, sheet_plane, IsOn}
@@ -229,6 +231,48 @@ module _ (box : Cuboid) (from : Place) (by : Step3) (odd : (j : ℕ) → j < 3 �
             no : precedence Pass ≡ precedence Reflect → ⊥
             no h = omega (arith, h)
 
+-- a part of the move at which each axis is within one tick of what it has made: the true point is in the region
+module _ (box : Cuboid) (from : Place) (by : Step3) (f : Fold) (c : ℕ → ℕ) (inside : Inside box from by f c) (t : Fraction) (num : ℕ) (is : t.num ≡ pos num) where
+  in_region_at : ((j : ℕ) → j < 3 → 2 * c j * t.den ≤ num * ticks by j + t.den) → ((j : ℕ) → j < 3 → num * ticks by j ≤ 2 * c j * t.den + t.den)
+      → IsInRegion box (true_point f from by t)
+  in_region_at behind ahead_ j l =
+      let size = signed_size (on_axis f.sign j) (on_axis by.0 j) (inside.signs j l) in
+      let grown : num * unsigned_abs (way_on f by j) ≡ num * ticks by j = ap (λ n. num * n) size in
+      let point = folded_point (on_axis f.sign j) (on_axis from.0 j) (on_axis by.0 j) (on_axis f.shift j) (start_on f from j) (way_on f by j) t refl refl in
+      let b = in_cell (on_axis box.low j) (on_axis box.high j) (start_on f from j) (way_on f by j) (c j) t num is (inside.cells j l) (omega (arith, grown, behind j l)) (omega (arith, grown, ahead_ j l)) in (
+        subst (λ x. whole (on_axis box.low j) ≤ℚ x) point (above_low (on_axis box.low j) (start_on f from j) (way_on f by j) t b.0),
+        subst (λ x. x ≤ℚ whole (on_axis box.high j)) point (below_high (on_axis box.high j) (start_on f from j) (way_on f by j) t b.1),
+      )
+
+-- what is made at one part is made at each later one, and what isn't exceeded at one part isn't at an earlier one
+behind_later : (made ln ld tn td d : ℕ) → 0 < ld → made * ld ≤ ln * d + ld → ln * td ≤ tn * ld → made * td ≤ tn * d + td
+behind_later made ln ld tn td d some first second =
+    ⊎_elim (λ (wrong : tn * d + td < made * td). absurd (no wrong)) (λ (fine : made * td ≤ tn * d + td). fine) (cases_lt (tn * d + td) (made * td))
+  where
+    no : tn * d + td < made * td → ⊥
+    no wrong =
+        let w : (tn * d + td + 1) * ld ≤ (made * td) * ld = mul-le-mul_right ld (omega (arith, wrong)) in
+        let f = mul-le-mul_right td first in
+        let s = mul-le-mul_right d second in
+        omega (arith, w, f, s, some)
+
+ahead_earlier : (made mn md tn td d : ℕ) → 0 < md → mn * d ≤ made * md + md → tn * md ≤ mn * td → tn * d ≤ made * td + td
+ahead_earlier made mn md tn td d some first second =
+    ⊎_elim (λ (wrong : made * td + td < tn * d). absurd (no wrong)) (λ (fine : tn * d ≤ made * td + td). fine) (cases_lt (made * td + td) (tn * d))
+  where
+    no : made * td + td < tn * d → ⊥
+    no wrong =
+        let w : (made * td + td + 1) * md ≤ (tn * d) * md = mul-le-mul_right md (omega (arith, wrong)) in
+        let f = mul-le-mul_right td first in
+        let s = mul-le-mul_right d second in
+        omega (arith, w, f, s, some)
+
+ahead_end : (made tn td d : ℕ) → d ≤ made + 1 → tn ≤ td → tn * d ≤ made * td + td
+ahead_end made tn td d few below =
+    let a = mul-le-mul_right d below in
+    let b = mul-le-mul_left td few in
+    omega (arith, a, b)
+
 odd_on : (dims : ℕ) (from : Place) (by : Step3) → IsMove dims from by → (j : ℕ) → j < 3 → IsOdd (on_axis from.0 j)
 odd_on dims from by move j l = at_axis (λ k. IsOdd (on_axis from.0 k)) j l move.place_odd
 
@@ -244,24 +288,33 @@ module _ (dims : ℕ) (plates : List Plate) (box : Cuboid) (from : Place) (by : 
   odd : (j : ℕ) → j < 3 → IsOdd (on_axis from.0 j)
   odd j l = odd_on dims from by move j l
 
-  gone_in_region : (n : ℕ) (ms : List Moment) → StaysInRegion plates box from by (Gone n) ms
-  gone_in_region n [] = tt
-  gone_in_region n (m ∷ ms) = tt
+  -- so many ticks are made of each axis after this part of the move
+  abbrev HasPassed : (ℕ → ℕ) → ℕ → ℕ → Type 0
+  HasPassed c ln ld = (j : ℕ) → j < 3 → 2 * c j * ld ≤ ln * ticks by j + ld
 
-  -- the whole way stays in the region
-  in_region : (s : Standing) (c : ℕ → ℕ) (ms : List Moment) → Left from by odd c ms → StaysInside box from by c s → StaysInRegion plates box from by s ms
-  in_region s c [] left inside = tt
-  in_region (Gone n) c (m ∷ ms) left inside = tt
-  in_region (Goes f) c (m ∷ ms) left inside = (
-    true_in_region box from by odd f c m ms left inside,
-    in_region (after_moment plates from by (Goes f) m) (more c m.axis) ms (rest_left from by odd c m ms left)
-        (stays_inside box from by odd f c m ms left inside dims move plates all closed),
-  )
+  -- the number of ticks that a part of the move is of
+  num_of : (ln ld : ℕ) (high t : Fraction) → 0 < ld → LiesFrom (record { num = pos ln; den = ld }) high t → t.num ≡ pos (unsigned_abs t.num)
+  num_of ln ld high t some lies =
+      let none : 0 * ld ≡ 0 = omega arith in
+      positive t.num (cancel_mul_ℤ (pos 0) t.num ld some (no_less (ln * t.den) (pos 0 *ℤ pos ld) (t.num *ℤ pos ld) (ap pos none) lies.above))
+    where
+      positive : (z : ℤ) → pos 0 ≤ℤ z → z ≡ pos (unsigned_abs z)
+      positive z h = omega (arith, ints, h)
 
-  gone_ends : (n : ℕ) (ms : List Moment) → EndsInside box (ended from by (after_moments plates from by (Gone n) ms))
-  unfolding after_moments
-  gone_ends n [] = tt
-  gone_ends n (m ∷ ms) = gone_ends n ms
+      no_less : (n : ℕ) (x y : ℤ) → x ≡ pos 0 → pos n ≤ℤ y → x ≤ℤ y
+      no_less n x y e h = omega (arith, ints, e, h)
+
+  above_num : (ln ld : ℕ) (num : ℤ) (n den : ℕ) → num ≡ pos n → (pos ln *ℤ pos den) ≤ℤ (num *ℤ pos ld) → ln * den ≤ n * ld
+  above_num ln ld num n den is h = orders (ln * den) (n * ld) (subst (λ z. (pos ln *ℤ pos den) ≤ℤ (z *ℤ pos ld)) is h)
+    where
+      orders : (a b : ℕ) → pos a ≤ℤ pos b → a ≤ b
+      orders a b h = omega (arith, ints, h)
+
+  below_num : (hn hd : ℕ) (num : ℤ) (n den : ℕ) → num ≡ pos n → (num *ℤ pos hd) ≤ℤ (pos hn *ℤ pos den) → n * hd ≤ hn * den
+  below_num hn hd num n den is h = orders (n * hd) (hn * den) (subst (λ z. (z *ℤ pos hd) ≤ℤ (pos hn *ℤ pos den)) is h)
+    where
+      orders : (a b : ℕ) → pos a ≤ℤ pos b → a ≤ b
+      orders a b h = omega (arith, ints, h)
 
   -- where nothing is left, each count is that of the whole way
   all_made : (c : ℕ → ℕ) → Left from by odd c [] → (j : ℕ) → j < 3 → ticks by j ≡ 2 * c j
@@ -269,6 +322,48 @@ module _ (dims : ℕ) (plates : List Plate) (box : Cuboid) (from : Place) (by : 
       (λ (within : 2 * c j + 1 < ticks by j). absurd (left.all (moment_of by j (2 * c j + 1)) (at_odd from by odd j (c j) l within) (omega arith)))
       (λ (beyond : ticks by j ≤ 2 * c j + 1). let e = at_axis (λ k. IsEven (on_axis by.0 k)) j l move.step_even in omega (arith, beyond, left.made j l, e))
       (cases_lt (2 * c j + 1) (ticks by j))
+
+  den_above : (m : Moment) → IsMoment from by m → 0 < m.den
+  den_above m is = omega (arith, is.begun, is.unfinished)
+
+  passed_rest : (c : ℕ → ℕ) (m : Moment) (ms : List Moment) (left : Left from by odd c (m ∷ ms)) (j : ℕ) → j < 3 → (j ≡ m.axis) ⊎ (j ≡ m.axis → ⊥)
+      → 2 * more c m.axis j * m.den ≤ m.num * ticks by j + m.den
+  passed_rest c m ms left j l (inl same) =
+      let count : c j ≡ c m.axis = ap c same in
+      let nums : m.num ≡ 2 * c j + 1 = head_num from by odd c m ms left ∙ ap (λ n. 2 * n + 1) (sym count) in
+      let dens : m.den ≡ ticks by j = (m_is from by odd c m ms left).den ∙ ap (ticks by) (sym same) in
+      let made : m.num * ticks by j ≡ (2 * c j + 1) * m.den = λ i. nums i * sym dens i in
+      rw (eq-eqb j m.axis same) (omega (arith, made))
+  passed_rest c m ms left j l (inr other) = rw (ne_eqb j m.axis other) (not_behind from by odd c m ms left j l)
+
+  -- the whole way stays in the region
+  in_region : (s : Standing) (c : ℕ → ℕ) (ln ld : ℕ) (ms : List Moment) → 0 < ld → Left from by odd c ms → HasPassed c ln ld → StaysInside box from by c s
+      → StaysInRegion plates box from by (record { num = pos ln; den = ld }) s ms
+  in_region (Gone n) c ln ld ms some left passed inside = tt
+  in_region (Goes f) c ln ld [] some left passed inside = λ t lies.
+      let is = num_of ln ld (whole (pos 1)) t some lies in
+      let above = above_num ln ld t.num (unsigned_abs t.num) t.den is lies.above in
+      let below = below_num 1 1 t.num (unsigned_abs t.num) t.den is lies.below in
+      in_region_at box from by f c inside t (unsigned_abs t.num) is
+      (λ j l. behind_later (2 * c j) ln ld (unsigned_abs t.num) t.den (ticks by j) some (passed j l) above)
+      (λ j l. ahead_end (2 * c j) (unsigned_abs t.num) t.den (ticks by j) (omega (arith, all_made c left j l)) (omega (arith, below)))
+  in_region (Goes f) c ln ld (m ∷ ms) some left passed inside = (
+    λ t lies.
+        let is = num_of ln ld (part_of m) t some lies in
+        let above = above_num ln ld t.num (unsigned_abs t.num) t.den is lies.above in
+        let below = below_num m.num m.den t.num (unsigned_abs t.num) t.den is lies.below in
+        in_region_at box from by f c inside t (unsigned_abs t.num) is
+        (λ j l. behind_later (2 * c j) ln ld (unsigned_abs t.num) t.den (ticks by j) some (passed j l) above)
+        (λ j l. ahead_earlier (2 * c j) m.num m.den (unsigned_abs t.num) t.den (ticks by j) (den_above m (m_is from by odd c m ms left)) (not_ahead from by odd c m ms left j l) below),
+    in_region (after_moment plates from by (Goes f) m) (more c m.axis) m.num m.den ms (den_above m (m_is from by odd c m ms left)) (rest_left from by odd c m ms left)
+        (λ j l. passed_rest c m ms left j l (cases_eq j m.axis))
+        (stays_inside box from by odd f c m ms left inside dims move plates all closed),
+  )
+
+  gone_ends : (n : ℕ) (ms : List Moment) → EndsInside box (ended from by (after_moments plates from by (Gone n) ms))
+  unfolding after_moments
+  gone_ends n [] = tt
+  gone_ends n (m ∷ ms) = gone_ends n ms
 
   end_is : (f : Fold) (c : ℕ → ℕ) → Left from by odd c [] → Inside box from by f c → (j : ℕ) → j < 3 → end_on from by f j ≡ centre (start_on f from j) (way_on f by j) (c j)
   end_is f c left inside j l =
@@ -326,6 +421,6 @@ module _ (dims : ℕ) (plates : List Plate) (box : Cuboid) (from : Place) (by : 
   confined start =
       let inside = at_start (λ j l. let at = start j l in cell_of (on_axis box.low j) (on_axis box.high j) (on_axis from.0 j) at.0 at.1 (odd j l)) in
       record {
-        region = in_region (Goes straight) (λ _. 0) (moments from by) starts inside;
+        region = in_region (Goes straight) (λ _. 0) 0 1 (moments from by) (omega arith) starts (λ j l. omega arith) inside;
         end = ends_inside (Goes straight) (λ _. 0) (moments from by) starts inside;
       }

@@ -16,4 +16,6 @@ pub mod Stepping
 pub mod Opening
 pub mod Places
 pub mod Sights
+pub mod Performing
 pub mod Going
+pub mod Courses

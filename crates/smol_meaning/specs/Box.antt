@@ -1,11 +1,11 @@
 -- Closed reflecting boxes, which hold what is in them.
-use Rattle.std.specs.Prelude.{◌≡◌, ◌≢◌, ℕ, ◌<◌, Bool, true, false, List, [], ◌∷◌, Contains, ℤ, ◌≤ℤ◌, ◌<ℤ◌}
+use Rattle.std.specs.Prelude.{◌≡◌, ◌≢◌, ℕ, ◌<◌, Bool, true, false, List, [], ◌∷◌, Contains, ℤ, pos, ◌≤ℤ◌, ◌<ℤ◌}
 use Rattle.smol_geom.specs.declared.place.Place.{Place}
 use Rattle.smol_geom.specs.declared.place.Step3.{Step3}
 use Rattle.smol_geom.specs.declared.moment.Moment.{Moment}
 use Rattle.smol_geom.specs.declared.cuboid.Cuboid.{Cuboid}
 use Rattle.smol_geom.specs.Axes.{on_axis}
-use Rattle.smol_geom.specs.Fraction.{Fraction, whole, ◌≤ℚ◌}
+use Rattle.smol_geom.specs.Fraction.{Fraction, IsNumber, whole, ◌≤ℚ◌}
 use Rattle.smol_geom.specs.Fold.{true_point}
 use Rattle.smol_geom.specs.Moment.{part_of}
 use Rattle.smol_geom.specs.Moments.{moments}
@@ -60,19 +60,27 @@ pub record IsClosed (dims : ℕ) (plates : List Plate) (box : Cuboid) : Type 0 w
   pub quiet : (plate : Plate) → Contains plates plate → (point : ℕ → Fraction) → IsInRegion box point → IsOn plate.sheet point
       → StaysPut plate.from_below × StaysPut plate.from_above
 
--- from here on each true point of the way at a moment is in the closed region of the box
-abbrev pub StaysInRegion : List Plate → Cuboid → Place → Step3 → Standing → List Moment → Type 0
-StaysInRegion plates box from by standing [] = Unit {0}
-StaysInRegion plates box from by (Gone number) (m ∷ ms) = Unit {0}
-StaysInRegion plates box from by (Goes f) (m ∷ ms) =
-    IsInRegion box (true_point f from by (part_of m)) × StaysInRegion plates box from by (after_moment plates from by (Goes f) m) ms
+-- a part of a move from one part of it to another, both included
+pub record LiesFrom (low high t : Fraction) : Type 0 where
+  pub number : IsNumber t
+  pub above : low ≤ℚ t
+  pub below : t ≤ℚ high
+
+-- after this part of the move each true point of the way is in the closed region of the box, at every part of the move: up to the
+-- next moment it is the point of the fold so far, and from there on that of the fold after the moment
+abbrev pub StaysInRegion : List Plate → Cuboid → Place → Step3 → Fraction → Standing → List Moment → Type 0
+StaysInRegion plates box from by last (Gone number) ms = Unit {0}
+StaysInRegion plates box from by last (Goes f) [] = (t : Fraction) → LiesFrom last (whole (pos 1)) t → IsInRegion box (true_point f from by t)
+StaysInRegion plates box from by last (Goes f) (m ∷ ms) =
+    ((t : Fraction) → LiesFrom last (part_of m) t → IsInRegion box (true_point f from by t))
+    × StaysInRegion plates box from by (part_of m) (after_moment plates from by (Goes f) m) ms
 
 -- a way that isn't absorbed ends inside the box
 abbrev pub EndsInside : Cuboid → Travelled → Type 0
 EndsInside box (At place) = IsInside box place
 EndsInside box (Absorbed number) = Unit {0}
 
--- the box confines the way of a move among the plates
+-- the box confines the way of a move among the plates: each true point of it is in the closed region, and it ends inside
 pub record Confines (plates : List Plate) (from : Place) (by : Step3) (box : Cuboid) : Type 0 where
-  pub region : StaysInRegion plates box from by (Goes straight) (moments from by)
+  pub region : StaysInRegion plates box from by (whole (pos 0)) (Goes straight) (moments from by)
   pub end : EndsInside box (way_among plates from by)

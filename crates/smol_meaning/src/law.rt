@@ -1,14 +1,18 @@
-//! Laws of ways, whatever the configuration and the move. These functions do nothing: the laws are their contracts.
-ghost use Rattle.std.specs.Prelude.{ℕ};
+//! Laws of ways and of runs, whatever the configuration, the seed and the move. These functions do nothing: the laws are their contracts.
+ghost use Rattle.std.specs.Prelude.{◌≡◌, ℕ, All, Ok};
 ghost use Rattle.smol_geom.specs.declared.cuboid.Cuboid.{Cuboid};
 ghost use Rattle.smol_geom.specs.declared.place.Place.{Place};
 ghost use Rattle.smol_geom.specs.declared.place.Step3.{Step3};
 ghost use Rattle.smol_types.specs.declared.draft.Draft.{Draft};
 ghost use Rattle.smol_types.specs.Sound.{IsSound};
+ghost use Rattle.smol_types.specs.State.{Fits};
 ghost use Rattle.smol_meaning.specs.Box.{Confines, IsClosed, IsInside};
 ghost use Rattle.smol_meaning.specs.Crossing.{CrossesNone};
+ghost use Rattle.smol_meaning.specs.Motion.{Move};
 ghost use Rattle.smol_meaning.specs.Moves.{EndsWithin, IsMove};
+ghost use Rattle.smol_meaning.specs.Run.{run_of};
 ghost use Rattle.smol_meaning.specs.Seen.{plates_of, way};
+ghost use Rattle.smol_meaning.specs.Stretch.{Stretch};
 
 /// No way crosses a face that reflects its species.
 pub fn no_way_crosses()
@@ -27,4 +31,23 @@ pub fn ways_are_confined()
 pub fn ways_end_near()
     ensures { (draft : Draft) (species : ℕ) (from : Place) (by : Step3) → IsSound draft → IsMove draft.dims from by
         → EndsWithin draft.dims from by (way draft species from by) }
+{}
+
+/// Each state of a run fits its configuration: serials ascend, coordinates are odd and no farther out than the steps made can
+/// lead, and so on.
+pub fn each_state_fits()
+    ensures { (draft : Draft) (seed : ℕ) (run : Stretch) → IsSound draft → run_of draft seed ≡ Ok run → All (Fits draft) run.states }
+{}
+
+/// No way of a run crosses a face that reflects its species, be it a molecule's motion or the way of a product.
+pub fn no_way_of_a_run_crosses()
+    ensures { (draft : Draft) (seed : ℕ) (run : Stretch) → run_of draft seed ≡ Ok run
+        → All (λ (move : Move). CrossesNone (plates_of draft move.species) move.from move.by) run.moves }
+{}
+
+/// Each way of a run that starts inside a closed reflecting box stays in its closed region, and ends inside unless it is absorbed.
+pub fn ways_of_a_run_are_confined()
+    ensures { (draft : Draft) (seed : ℕ) (run : Stretch) → IsSound draft → run_of draft seed ≡ Ok run
+        → All (λ (move : Move). (box : Cuboid) → IsClosed draft.dims (plates_of draft move.species) box → IsInside box move.from
+        → Confines (plates_of draft move.species) move.from move.by box) run.moves }
 {}

@@ -7,6 +7,9 @@ mod sight;
 mod way;
 
 pub use event::{Birth, Fired};
-pub use law::{no_way_crosses, ways_are_confined, ways_end_near};
+pub use law::{
+    each_state_fits, no_way_crosses, no_way_of_a_run_crosses, ways_are_confined, ways_end_near,
+    ways_of_a_run_are_confined,
+};
 pub use sight::{a_line_meets_a_panel, a_line_meets_a_wall, meets_panel, meets_wall};
 pub use way::{Response, Standing, Travelled};

@@ -1,4 +1,4 @@
-use Rattle.std.proofs.Common.{◌≡◌, ◌<◌, ◌+◌, ◌∙◌, [], ◌++◌, List, length, get_or, take, filter, arith, ap, sym, length-take-le, Bool}
+use Rattle.std.proofs.Common.{◌<◌, ◌∙◌, [], List, length, get_or, take, filter, arith, ap, sym, length-take-le, Bool}
 use Rattle.std.proofs.lemmas.List.{take_all, append-nil, get_or_default}
 use Rattle.std.proofs.lemmas.List.Sums.{length-filter, count_by-le-length}
 use Rattle.smol_types.specs.declared.state.Mol.{Mol}
@@ -34,19 +34,19 @@ loop-mol-preserved c =
     let below : mol.species < length counts.items = omega (arith, counts.ok.0, c.loop-mol.invariant.species) in
     elim c.if-inside.branch [
       | then-inside w ↦ rw w.counts-is (record {
-          species = c.loop-mol.invariant.species;
-          counted = λ k within.
-              one_more_counted seen mol counts.items w.index_mut.result.now k below
-              (w.index_mut.ensures.value ∙ get_or_default counts.items mol.species w.index_mut.result.now 0 below)
-              (c.loop-mol.invariant.counted k within)
-              ∙ ap (λ (l : List Mol). number_of l k) (sym (passed_more p mols i nobody _ c.loop-mol-test.true (sym c.inside.ensures ∙ w.if-inside.true)));
-        })
+        species = c.loop-mol.invariant.species;
+        counted = λ k within.
+            one_more_counted seen mol counts.items w.index_mut.result.now k below
+            (w.index_mut.ensures.value ∙ get_or_default counts.items mol.species w.index_mut.result.now 0 below)
+            (c.loop-mol.invariant.counted k within)
+            ∙ ap (λ (l : List Mol). number_of l k) (sym (passed_more p mols i nobody _ c.loop-mol-test.true (sym c.inside.ensures ∙ w.if-inside.true)));
+      })
       | else-inside w ↦ rw w.counts-is (record {
-          species = c.loop-mol.invariant.species;
-          counted = λ k within.
-              c.loop-mol.invariant.counted k within
-              ∙ ap (λ (l : List Mol). number_of l k) (sym (passed_more p mols i nobody _ c.loop-mol-test.true (sym c.inside.ensures ∙ w.if-inside.false) ∙ append-nil seen));
-        })
+        species = c.loop-mol.invariant.species;
+        counted = λ k within.
+            c.loop-mol.invariant.counted k within
+            ∙ ap (λ (l : List Mol). number_of l k) (sym (passed_more p mols i nobody _ c.loop-mol-test.true (sym c.inside.ensures ∙ w.if-inside.false) ∙ append-nil seen));
+      })
     ]
 
 pub returns : goal.returns

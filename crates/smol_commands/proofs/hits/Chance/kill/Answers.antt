@@ -13,13 +13,13 @@ loop-rank-preserved c =
     let seed = c.hits.ensures.seed ∙ c.loop-rank.invariant.seed in
     elim c.if-not-hits.branch [
       | then-not-hits w ↦ rw (w.mols-is, w.kept-is) (record {
-          filters = filtered_in so_far there (ap not (sym hit ∙ w.if-not-hits.true)) c.index.ensures;
-          seed = seed;
-        })
+        filters = filtered_in so_far there (ap not (sym hit ∙ w.if-not-hits.true)) c.index.ensures;
+        seed = seed;
+      })
       | else-not-hits w ↦ rw (w.mols-is, w.kept-is) (record {
-          filters = filtered_out so_far there (ap not (sym hit ∙ w.if-not-hits.false)) c.index.ensures;
-          seed = seed;
-        })
+        filters = filtered_out so_far there (ap not (sym hit ∙ w.if-not-hits.false)) c.index.ensures;
+        seed = seed;
+      })
     ]
 
 pub returns-clause-left : goal.returns-clause-left

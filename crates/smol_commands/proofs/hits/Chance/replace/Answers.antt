@@ -1,6 +1,5 @@
 use Rattle.std.proofs.Common.{◌<◌, arith, length, ap, ◌∙◌, sym}
 use Rattle.std.specs.Prelude.{if◌then◌else◌}
-use Rattle.smol_types.specs.declared.state.Mol.{Mol}
 use Rattle.smol_meaning.specs.Commands.{turned_into}
 use Rattle.smol_commands.proofs.Ranks.{mapped_here, mapped_same, mapped_whole}
 use Rattle.smol_commands.proofs.hits.Chance.replace.Goals as goal
@@ -16,13 +15,13 @@ loop-rank-preserved c =
     let mol = c.index.result.now in
     elim c.if-hits.branch [
       | then-hits w ↦ rw w.mols-is (record {
-          maps = mapped_here so_far there (ap (λ b. if b then turned_into c.args.to mol else mol) (sym hit ∙ w.if-hits.true)) c.index.ensures;
-          seed = seed;
-        })
+        maps = mapped_here so_far there (ap (λ b. if b then turned_into c.args.to mol else mol) (sym hit ∙ w.if-hits.true)) c.index.ensures;
+        seed = seed;
+      })
       | else-hits w ↦ rw w.mols-is (record {
-          maps = mapped_same so_far there (ap (λ b. if b then turned_into c.args.to mol else mol) (sym hit ∙ w.if-hits.false)) c.index.ensures;
-          seed = seed;
-        })
+        maps = mapped_same so_far there (ap (λ b. if b then turned_into c.args.to mol else mol) (sym hit ∙ w.if-hits.false)) c.index.ensures;
+        seed = seed;
+      })
     ]
 
 pub returns-clause-turned : goal.returns-clause-turned

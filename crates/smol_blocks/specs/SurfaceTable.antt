@@ -1,0 +1,27 @@
+-- What the reader keeps of the lines of a surface's block. This is no part of what a text means.
+use Rattle.std.specs.Prelude.{◌≡◌, ◌+◌, ◌<◌, ◌≤◌, ℕ, List, ◌∷◌, length, Option, None, Some, Result, Ok, Err, slice_index_or}
+use Rattle.smol_text.specs.Reading.{Stated}
+use Rattle.smol_types.specs.declared.fault.Kind.{Kind}
+use Rattle.smol_types.specs.declared.surface.Action.TheVariants.{Transmit}
+use Rattle.smol_types.specs.declared.surface.Face.TheVariants.{Front, Back}
+use Rattle.smol_line.specs.declared.refusal.Refusal.{Refusal}
+use Rattle.smol_line.specs.declared.refusal.Refusal.TheVariants.{At, OutOfMemory}
+use Rattle.smol_blocks.specs.declared.surface_table.SurfaceTable.{SurfaceTable}
+use Rattle.smol_blocks.specs.Surface.{SurfaceSaid, Known, names_of, rects_of, sides_of, acting_on, led_to}
+
+-- each table is its look-up over what the lines of the block so far say
+pub record Holds (table : SurfaceTable) (before : List SurfaceSaid) : Type 0 where
+  pub names : table.panels.names ≡ names_of before
+  pub rects : table.panels.rects.items ≡ rects_of before
+  pub sides : table.panels.sides.items ≡ sides_of before
+  pub front : (species : ℕ) → slice_index_or table.actions.front.items species Transmit ≡ acting_on Front species before
+  pub back : (species : ℕ) → slice_index_or table.actions.back.items species Transmit ≡ acting_on Back species before
+  pub front_to : (panel : ℕ) → slice_index_or table.panels.front_to.items panel None ≡ led_to panel Front before
+  pub back_to : (panel : ℕ) → slice_index_or table.panels.back_to.items panel None ≡ led_to panel Back before
+
+-- how the reading of a line ends: it is taken and the table holds what it says too, or its fault is told, or memory ran out
+abbrev pub Reads : {T : Type 0} → (List SurfaceSaid → Stated → Result SurfaceSaid Kind) → Stated → SurfaceTable → SurfaceTable → Result T Refusal → Type 0
+Reads rule line old new (Ok done) =
+    (before : List SurfaceSaid) → Holds old before → (said : SurfaceSaid) × (rule before line ≡ Ok said) × Holds new (said ∷ before)
+Reads rule line old new (Err (At kind)) = (before : List SurfaceSaid) → Holds old before → rule before line ≡ Err kind
+Reads rule line old new (Err OutOfMemory) = Unit {0}

@@ -1,0 +1,4 @@
+mod OnPages
+mod Joining
+mod Lone
+mod Phases
