@@ -47,8 +47,8 @@ steps_of draft = last_step draft.start draft.stop draft.step
 unfoldable pub course : Draft → ℕ → State → Stretch
 course draft seed opening =
     from_state opening (
-    followed_by (resumed (followed_by (phase_of draft seed Before opening) (steps_from draft seed (steps_of draft))))
-    (phase_of draft seed After)
+      followed_by (resumed (followed_by (phase_of draft seed Before opening) (steps_from draft seed (steps_of draft))))
+      (phase_of draft seed After)
     )
 
 abbrev pub run_from : Draft → ℕ → Result State NoPlace → Result Stretch NoPlace
