@@ -99,11 +99,11 @@ lone_front out text xs a b same front =
         elim (cases_lt out outlet) [
           | inl below ↦ elsewhere count outlet (omega arith)
           | inr above ↦ elim (cases_lt outlet out) [
-              | inl beyond ↦ elsewhere count outlet (omega arith)
-              | inr within ↦ let same_outlet : out ≡ outlet = omega arith in
-                  let P : ℕ → Type 0 = λ o. b.bytes o ≡ a.bytes o ++ bytes_on o ((out, take count text) ∷ []) in
-                  subst P same_outlet here
-            ]
+            | inl beyond ↦ elsewhere count outlet (omega arith)
+            | inr within ↦ let same_outlet : out ≡ outlet = omega arith in
+                let P : ℕ → Type 0 = λ o. b.bytes o ≡ a.bytes o ++ bytes_on o ((out, take count text) ∷ []) in
+                subst P same_outlet here
+          ]
         ]
 
 no_front : (xs : List Piece) (a b : Written) → ((outlet : ℕ) → bytes_on outlet xs ≡ []) → AppendsFrontOf xs a b → AppendsFrontOf [] a b

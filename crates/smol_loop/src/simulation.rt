@@ -54,7 +54,9 @@ fn begin_and_step<R: Threads + Sync, K: Outlets, G: Gate + Sync>(
     ensures seed { streams.new ≡ streams.old }
 {
     match perform_due(alloc, config, Phase::Before, state, streams, pages, outlets) {
-        Ok(Flow::Go) => make_steps(rt, alloc, config, panels, seed, workers, gate, state, streams, pages, outlets),
+        Ok(Flow::Go) => make_steps(
+            rt, alloc, config, panels, seed, workers, gate, state, streams, pages, outlets,
+        ),
         Ok(Flow::Stop) => Ok(Flow::Stop),
         Err(fault) => Err(fault),
     }
@@ -88,7 +90,9 @@ fn run_on<R: Threads + Sync, K: Outlets, G: Gate + Sync>(
     ensures opened { K.opened outlets.new ≡ K.opened outlets.old }
     ensures faults { CountsFault result (K.faults outlets.old) (K.faults outlets.new) }
 {
-    match begin_and_step(rt, alloc, config, panels, seed, workers, gate, state, streams, pages, outlets) {
+    match begin_and_step(
+        rt, alloc, config, panels, seed, workers, gate, state, streams, pages, outlets,
+    ) {
         Ok(_) => perform_due(alloc, config, Phase::After, state, streams, pages, outlets),
         Err(fault) => Err(fault),
     }
@@ -126,7 +130,19 @@ pub fn simulate<R: Threads + Sync, K: Outlets, G: Gate + Sync>(
     let Ok(panels) = Panels::of(alloc, config) else {
         return Err(RunFault::OutOfMemory);
     };
-    match run_on(rt, alloc, config, &panels, seed, workers, gate, &mut state, &mut streams, &mut pages, outlets) {
+    match run_on(
+        rt,
+        alloc,
+        config,
+        &panels,
+        seed,
+        workers,
+        gate,
+        &mut state,
+        &mut streams,
+        &mut pages,
+        outlets,
+    ) {
         Ok(_) => Ok(()),
         Err(fault) => Err(fault),
     }

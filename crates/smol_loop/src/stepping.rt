@@ -60,12 +60,23 @@ fn make_step<R: Threads + Sync, G: Gate + Sync>(
         mols: Items::new(alloc),
         next: 0,
     };
-    match advance(rt, alloc, config, panels, mem::replace(state, nobody), seed, workers, gate) {
+    match advance(
+        rt,
+        alloc,
+        config,
+        panels,
+        mem::replace(state, nobody),
+        seed,
+        workers,
+        gate,
+    ) {
         Ok(next) => {
             *state = next;
             Ok(Flow::Go)
         }
-        Err(StepFault::TooManyMolecules { .. }) => Err(RunFault::TooManyMolecules { step: step + 1 }),
+        Err(StepFault::TooManyMolecules { .. }) => Err(RunFault::TooManyMolecules {
+            step: step + 1,
+        }),
         Err(StepFault::OutOfMemory) => Err(RunFault::OutOfMemory),
     }
 }
@@ -103,7 +114,15 @@ fn perform_and_step<R: Threads + Sync, K: Outlets, G: Gate + Sync>(
     ensures faults { CountsFault result (K.faults outlets.old) (K.faults outlets.new) }
     ensures seed { streams.new ≡ streams.old }
 {
-    match perform_due(alloc, config, Phase::At(state.step), state, streams, pages, outlets) {
+    match perform_due(
+        alloc,
+        config,
+        Phase::At(state.step),
+        state,
+        streams,
+        pages,
+        outlets,
+    ) {
         Ok(Flow::Go) => make_step(rt, alloc, config, panels, seed, workers, gate, state),
         Ok(Flow::Stop) => Ok(Flow::Stop),
         Err(fault) => Err(fault),
@@ -144,11 +163,21 @@ pub fn make_steps<R: Threads + Sync, K: Outlets, G: Gate + Sync>(
 {
     let last = steps_of(config);
     for _step in 0..last {
-        match perform_and_step(rt, alloc, config, panels, seed, workers, gate, state, streams, pages, outlets) {
+        match perform_and_step(
+            rt, alloc, config, panels, seed, workers, gate, state, streams, pages, outlets,
+        ) {
             Ok(Flow::Go) => {}
             Ok(Flow::Stop) => return Ok(Flow::Stop),
             Err(fault) => return Err(fault),
         }
     }
-    perform_due(alloc, config, Phase::At(last), state, streams, pages, outlets)
+    perform_due(
+        alloc,
+        config,
+        Phase::At(last),
+        state,
+        streams,
+        pages,
+        outlets,
+    )
 }

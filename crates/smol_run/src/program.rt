@@ -98,7 +98,15 @@ fn run_words<R: Threads + Sync, S: Source, K: Outlets, G: Gate + Sync>(
 {
     match read_words(words) {
         Ok(Job::File { index, seed }) => {
-            run_file(rt, alloc, words[index].as_str(), seed, source, outlets, gate)
+            run_file(
+                rt,
+                alloc,
+                words[index].as_str(),
+                seed,
+                source,
+                outlets,
+                gate,
+            )
         }
         Err(_) => {
             tell(outlets, USAGE)?;
