@@ -102,7 +102,8 @@ fn within_limit(most: u32, state: State) -> Result<State, StepFault>
     Ok(state)
 }
 
-/// Makes the step after this state.
+/// Makes the step after this state. Its pairs are matched by so many workers, where fewer than 1 count as 1
+/// and more than 16 as 16. Neither their number nor the gate changes the answer.
 pub fn advance<R: Threads + Sync, G: Gate + Sync>(
     rt: &R,
     alloc: Global,
@@ -113,8 +114,6 @@ pub fn advance<R: Threads + Sync, G: Gate + Sync>(
     workers: u32,
     gate: &G,
 ) -> Result<State, StepFault>
-    requires least { 1 ≤ workers }
-    requires most { workers ≤ 16 }
     requires panels { panels.now ≡ config.now }
     requires fits { Fits config.now state }
     requires further { state.step + 1 ≤ last_step config.now.start config.now.stop config.now.step }
@@ -128,6 +127,7 @@ pub fn advance<R: Threads + Sync, G: Gate + Sync>(
     let most = config.max_mol();
     let State { step, mols, next } = state;
     let k = step + 1;
+    let workers = workers.clamp(1, 16);
     let mut mols = mols.into_vec();
     diffuse(config, panels, &mut Streams::of_seed(seed), k, &mut mols);
     match reacted(
