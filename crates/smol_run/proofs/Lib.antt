@@ -1,8 +1,6 @@
-pub mod Ends
-pub mod Printing
 pub mod Items
 pub mod Spelling
-pub mod Times
-pub mod Places
-pub mod Placing
-pub mod Counting
+pub mod Openings
+pub mod Cuts
+pub mod Files
+pub mod Safety

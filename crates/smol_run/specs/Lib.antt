@@ -1,3 +1,7 @@
 pub mod Status
 pub mod Words
 pub mod Outcome
+pub mod Asked
+pub mod Opening
+pub mod Ends
+pub mod Ways

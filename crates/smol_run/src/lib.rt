@@ -1,10 +1,9 @@
 //! The whole program but for its real outside: from the words of the command line to the bytes on the outlets.
 #![tactic(auto)]
 
-mod commands;
-mod lines;
-mod motion;
-mod placement;
+mod error_lines;
+mod loss;
+mod outputs;
 mod program;
 mod run;
 mod status;

@@ -1,52 +1,50 @@
 //! The run of a configuration.
-ghost use Rattle.std.specs.Prelude.{◌≡◌, ◌≤◌, IsErrOf, OnOk};
-ghost use Rattle.smol_edge.specs.Faults.{Rose, Tells};
-ghost use Rattle.smol_edge.specs.Outlets.{Appends};
-ghost use Rattle.smol_types.specs.State.{Fits};
-ghost use Rattle.smol_meaning.specs.Placement.{opening_state};
-ghost use Rattle.smol_meaning.specs.Run.{last_state, pieces_of};
+ghost use Rattle.std.specs.Prelude.{◌≡◌, IfOk};
+ghost use Rattle.smol_edge.specs.Faults.{Tells};
+ghost use Rattle.smol_meaning.specs.Run.{run_of};
+ghost use Rattle.smol_run.specs.Ends.{CountsLoss, GoesWith, IsRun};
+ghost use Rattle.smol_run.specs.Outcome.{outcome_of_run};
 
-use crate::commands::perform_due;
-use crate::motion::advance;
-use crate::placement::opening_state;
-use crate::stop::Stop;
-use smol_edge::Outlets;
-use smol_streams::Streams;
-use smol_types::{Config, Phase, State, last_step};
+use crate::error_lines::{no_place_text, over_text, tell};
+use crate::loss::Loss;
+use crate::outputs::open_all;
+use crate::status::Status;
+use smol_edge::{Gate, Outlets};
+use smol_loop::{RunFault, simulate};
+use smol_types::Config;
 use std::alloc::Global;
+use std::thread::Threads;
 
-// Makes all steps of a run, from its opening state on.
-fn make_steps(config: &Config, seed: u64, opening: State) -> State
-    requires opening { opening ≡ opening_state config.now }
-    requires fits { Fits config.now opening }
-    ensures state { result ≡ last_state config.now seed }
-    ensures fits { Fits config.now result }
-{
-    let mut streams = Streams::of_seed(seed);
-    let mut state = opening;
-    let last = last_step(config.start(), config.stop(), config.step());
-    for _step in 0..last {
-        state = advance(config, &mut streams, state);
-    }
-    state
-}
+/// How many workers decide pairs where the words don't say.
+const WORKERS: u32 = 1;
 
-/// Runs a configuration with the random words of a seed: the commands before the first step, the steps, and the commands
-/// after the last one.
-#[tactic(auto, unfolding(smol_meaning::specs::Run::pieces_of))]
-pub fn run_config<K: Outlets>(
+/// Runs a configuration with the random words of a seed: opens its output files, simulates, and tells where the run has no beginning
+/// or is over before its end.
+pub fn run_config<R: Threads + Sync, K: Outlets, G: Gate + Sync>(
+    rt: &R,
     alloc: Global,
     config: &Config,
     seed: u64,
     outlets: &mut K,
-) -> Result<(), Stop>
-    ensures printed { OnOk result (Tells (K.told outlets.old) (K.told outlets.new) (Appends (pieces_of config.now seed))) }
-    ensures cause { IsErrOf result Stop.Output → Rose (K.faults outlets.old) (K.faults outlets.new) }
-    ensures no_input { IsErrOf result Stop.Input → ⊥ }
-    ensures faults_stay { K.faults outlets.old ≤ K.faults outlets.new }
+    gate: &G,
+) -> Result<Status, Loss>
+    requires { K.opened outlets.old ≡ 0 }
+    ensures ended { Tells (K.told outlets.old) (K.told outlets.new) (GoesWith (outcome_of_run config.now.outputs (run_of config.now seed)) result) }
+    ensures status { IfOk result IsRun }
+    ensures faults { CountsLoss result (K.faults outlets.old) (K.faults outlets.new) }
 {
-    let state = opening_state(alloc, config)?;
-    perform_due(alloc, config, Phase::Before, &state, outlets)?;
-    let state = make_steps(config, seed, state);
-    perform_due(alloc, config, Phase::After, &state, outlets)
+    open_all(outlets, config.outputs())?;
+    match simulate(rt, alloc, config, seed, WORKERS, outlets, gate) {
+        Ok(()) => Ok(Status::Done),
+        Err(RunFault::NoPlace { line, serial }) => {
+            tell(outlets, &no_place_text(alloc, line, serial)?)?;
+            Ok(Status::Refused)
+        }
+        Err(RunFault::TooManyMolecules { step }) => {
+            tell(outlets, &over_text(alloc, step)?)?;
+            Ok(Status::Over)
+        }
+        Err(RunFault::OutputFault) => Err(Loss::Output),
+        Err(RunFault::OutOfMemory) => Err(Loss::Memory),
+    }
 }

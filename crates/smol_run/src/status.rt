@@ -15,6 +15,8 @@ pub enum Status {
     Output,
     /// Memory ran out.
     Memory,
+    /// The run passed the limit of molecules.
+    Over,
 }
 
 impl Status {

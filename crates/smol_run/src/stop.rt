@@ -1,9 +1,8 @@
 ghost use Rattle.std.specs.Prelude.{◌≡◌};
 
-use smol_edge::Failed;
-use std::alloc::AllocError;
+use crate::loss::Loss;
 
-/// What keeps a run from its end.
+/// What keeps a call from a status of its own.
 #[derive(Clone, Copy, Debug, PartialEq, Eq)]
 pub enum Stop {
     /// A read failed.
@@ -14,23 +13,15 @@ pub enum Stop {
     Memory,
 }
 
-impl From<AllocError> for Stop {
-    ghost use Rattle.smol_run.specs.declared.stop.Stop.TheVariants.{Memory};
+impl From<Loss> for Stop {
+    ghost use Rattle.smol_run.specs.Ends.{stop_of};
 
-    ghost from_gives = { λ _ stop. stop ≡ Memory };
+    ghost from_gives = { λ loss stop. stop ≡ stop_of loss };
 
-    fn from(_: AllocError) -> Stop {
-        Stop::Memory
-    }
-}
-
-// Only writes end so: a failed opening is told apart where it happens.
-impl From<Failed> for Stop {
-    ghost use Rattle.smol_run.specs.declared.stop.Stop.TheVariants.{Output};
-
-    ghost from_gives = { λ _ stop. stop ≡ Output };
-
-    fn from(_: Failed) -> Stop {
-        Stop::Output
+    fn from(loss: Loss) -> Stop {
+        match loss {
+            Loss::Output => Stop::Output,
+            Loss::Memory => Stop::Memory,
+        }
     }
 }

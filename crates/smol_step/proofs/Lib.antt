@@ -2,6 +2,5 @@ mod Answered
 mod Freed
 mod InPlace
 mod Pairwise
-mod Radiusless
 mod Removed
 mod Still

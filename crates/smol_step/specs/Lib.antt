@@ -1,3 +1,2 @@
 pub mod Advance
 pub mod Meeting
-pub mod Radius

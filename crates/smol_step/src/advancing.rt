@@ -1,17 +1,16 @@
 //! The state after a step.
-ghost use Rattle.std.specs.Prelude.{◌≡◌, ◌+◌, ◌-◌, ◌^◌, ◌≤◌, ℕ, All, IfOk, length, map};
+ghost use Rattle.std.specs.Prelude.{◌≡◌, ◌+◌, ◌-◌, ◌^◌, ◌≤◌, All, IfOk, length, map};
 ghost use Rattle.smol_types.specs.Limits.{last_serial};
 ghost use Rattle.smol_types.specs.Sound.{IsSound};
 ghost use Rattle.smol_types.specs.State.{Ascend, Fits};
 ghost use Rattle.smol_types.specs.Steps.{last_step};
+ghost use Rattle.smol_pairs.specs.Moved.{AreMoved};
 ghost use Rattle.smol_meaning.specs.Placed.{IsPlaced};
 ghost use Rattle.smol_meaning.specs.Step.{events_of, moves_of, next_state, reacted, reactions_of_two, remains, within_limit};
 ghost use Rattle.smol_meaning.specs.Ways.{CrossesNoFace, StaysInBoxes};
 ghost use Rattle.smol_step.specs.Advance.{IsAnswer};
-ghost use Rattle.smol_step.specs.Radius.{HasNoRadius};
 
 use crate::alone::react_alone;
-use crate::candidates::no_candidates;
 use crate::motion::diffuse;
 use crate::newborn::add_newborn;
 use crate::reacting::Reacting;
@@ -19,8 +18,9 @@ use crate::removal::keep_free;
 use crate::step_fault::StepFault;
 use crate::together::react_together;
 use smol_births::births;
+use smol_claims::match_pairs;
 use smol_edge::Gate;
-use smol_plan::greedy;
+use smol_pairs::candidates;
 use smol_streams::Streams;
 use smol_travel::Panels;
 use smol_types::{Config, Items, Mol, State};
@@ -28,33 +28,35 @@ use std::alloc::{AllocError, Global};
 use std::thread::Threads;
 
 // What reacts among the molecules after motion: first each alone, then each two that meet.
-fn react<R: Threads + Sync>(
-    _rt: &R,
+fn react<R: Threads + Sync, G: Gate + Sync>(
+    rt: &R,
     alloc: Global,
     config: &Config,
     seed: u64,
     k: u32,
     mols: &[Mol],
+    workers: u32,
+    gate: &G,
 ) -> Result<Reacting, AllocError>
-    requires no_radius { HasNoRadius config.now }
+    requires least { 1 ≤ workers }
+    requires most { workers ≤ 16 }
     requires step { k ≤ 4000000 }
-    requires count { length mols.now ≤ 1000000 }
-    requires ascend { (next : ℕ) × Ascend 0 next mols.now }
-    requires placed { All (IsPlaced config.now (2 ^ 57)) mols.now }
+    requires moved { AreMoved config.now mols.now }
     ensures events { IfOk result (λ r. r.events.items ≡ events_of config.now seed k mols.now) }
     ensures free { IfOk result
         (λ r. r.free.items ≡ map (remains config.now seed k (reactions_of_two config.now seed k mols.now)) mols.now) }
 {
     let mut streams = Streams::of_seed(seed);
     let mut reacting = react_alone(alloc, config, &mut streams, k, mols)?;
-    let pairs = no_candidates(alloc);
-    let fired = greedy(alloc, &pairs)?;
+    let pairs = candidates(rt, alloc, config, mols, &reacting.free, seed, k)?;
+    let copy = Vec::from_slice(alloc, &pairs)?;
+    let fired = match_pairs(rt, alloc, copy, workers, gate)?;
     react_together(config, &mut streams, k, mols, &pairs, &fired, &mut reacting)?;
     Ok(reacting)
 }
 
 // The state after step k, whatever the limit, of these molecules after its motion.
-fn reacted<R: Threads + Sync>(
+fn reacted<R: Threads + Sync, G: Gate + Sync>(
     rt: &R,
     alloc: Global,
     config: &Config,
@@ -63,19 +65,22 @@ fn reacted<R: Threads + Sync>(
     k: u32,
     mols: Vec<Mol>,
     next: u64,
+    workers: u32,
+    gate: &G,
 ) -> Result<State, AllocError>
+    requires least { 1 ≤ workers }
+    requires most { workers ≤ 16 }
     requires sound { IsSound config.now }
-    requires no_radius { HasNoRadius config.now }
     requires panels { panels.now ≡ config.now }
     requires step { k ≤ 4000000 }
     requires count { length mols.items ≤ 1000000 }
-    requires ascend { (next : ℕ) × Ascend 0 next mols.items }
+    requires serials { Ascend 0 last_serial mols.items }
     requires placed { All (IsPlaced config.now (2 ^ 57)) mols.items }
     requires next { next ≤ last_serial }
     ensures { IfOk result (λ state. state ≡ reacted config.now seed k mols.items next) }
 {
     let mut mols = mols;
-    let reacting = react(rt, alloc, config, seed, k, &mols)?;
+    let reacting = react(rt, alloc, config, seed, k, &mols, workers, gate)?;
     let births = births(alloc, config, &reacting.events, next)?;
     keep_free(&mut mols, &reacting.free);
     add_newborn(panels, &births, &mut mols)?;
@@ -97,7 +102,8 @@ fn within_limit(most: u32, state: State) -> Result<State, StepFault>
     Ok(state)
 }
 
-/// Makes the step after this state.
+/// Makes the step after this state. Its pairs are matched by so many workers, where fewer than 1 count as 1
+/// and more than 16 as 16. Neither their number nor the gate changes the answer.
 pub fn advance<R: Threads + Sync, G: Gate + Sync>(
     rt: &R,
     alloc: Global,
@@ -105,11 +111,9 @@ pub fn advance<R: Threads + Sync, G: Gate + Sync>(
     panels: &Panels,
     state: State,
     seed: u64,
-    _workers: u32,
-    _gate: &G,
+    workers: u32,
+    gate: &G,
 ) -> Result<State, StepFault>
-    // Reactions of two are to come.
-    requires no_radius { HasNoRadius config.now }
     requires panels { panels.now ≡ config.now }
     requires fits { Fits config.now state }
     requires further { state.step + 1 ≤ last_step config.now.start config.now.stop config.now.step }
@@ -123,9 +127,12 @@ pub fn advance<R: Threads + Sync, G: Gate + Sync>(
     let most = config.max_mol();
     let State { step, mols, next } = state;
     let k = step + 1;
+    let workers = workers.clamp(1, 16);
     let mut mols = mols.into_vec();
     diffuse(config, panels, &mut Streams::of_seed(seed), k, &mut mols);
-    match reacted(rt, alloc, config, panels, seed, k, mols, next) {
+    match reacted(
+        rt, alloc, config, panels, seed, k, mols, next, workers, gate,
+    ) {
         Ok(state) => within_limit(most, state),
         Err(AllocError) => Err(StepFault::OutOfMemory),
     }

@@ -3,7 +3,6 @@
 
 mod advancing;
 mod alone;
-mod candidates;
 mod motion;
 mod newborn;
 mod ranks;

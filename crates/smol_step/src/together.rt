@@ -1,7 +1,8 @@
 //! Reactions of two molecules.
-ghost use Rattle.std.specs.Prelude.{◌≡◌, ◌++◌, ◌∷◌, [], ℕ, ◌<◌, ◌≤◌, All, IfOk, OnOk, length, map, false, slice_set};
+ghost use Rattle.std.specs.Prelude.{◌≡◌, ◌++◌, ◌∷◌, [], ◌<◌, ◌≤◌, All, IfOk, OnOk, length, map, false, slice_set};
 ghost use Rattle.smol_plan.specs.Matching.{serial};
 ghost use Rattle.smol_types.specs.declared.state.Mol.{Mol as TheMol};
+ghost use Rattle.smol_types.specs.Limits.{last_serial};
 ghost use Rattle.smol_types.specs.State.{Ascend};
 ghost use Rattle.smol_meaning.specs.Encounters.{Encounter, candidates_of, event_of_two};
 ghost use Rattle.smol_meaning.specs.Events.{is_free};
@@ -26,7 +27,7 @@ fn react(
     reacting: &mut Reacting,
 ) -> Result<(), AllocError>
     requires count { length mols.now ≤ 1000000 }
-    requires ascend { (next : ℕ) × Ascend 0 next mols.now }
+    requires serials { Ascend 0 last_serial mols.now }
     requires species { All (λ (mol : TheMol). mol.species < length config.now.species) mols.now }
     requires free { length reacting.old.free.items ≡ length mols.now }
     requires met { (e : Encounter) × IsOfPair config.now streams.old k mols.now pair.now e }
@@ -57,7 +58,7 @@ pub(crate) fn react_together(
     reacting: &mut Reacting,
 ) -> Result<(), AllocError>
     requires count { length mols.now ≤ 1000000 }
-    requires ascend { (next : ℕ) × Ascend 0 next mols.now }
+    requires serials { Ascend 0 last_serial mols.now }
     requires species { All (λ (mol : TheMol). mol.species < length config.now.species) mols.now }
     requires pairs { pairs.now ≡ candidates_of config.now streams.old k mols.now }
     requires fired { fired.now ≡ serial pairs.now }

@@ -3,13 +3,9 @@ ghost use Rattle.smol_types.specs.Panels.{IsPanel};
 
 use super::*;
 use smol_geom::{Place, Rect, Step3};
-use smol_types::{
-    Action, Config, Draft, Face, Items, Letter, Name, Panel, Species, Surface, Wall,
-};
+use smol_types::{Action, Config, Draft, Face, Items, Letter, Name, Panel, Species, Surface, Wall};
 use std::alloc::{AllocError, Global};
 use std::test::Fail;
-
-
 
 const LOWER: Panel = Panel {
     rect: Rect {

@@ -1,12 +1,14 @@
 use Rattle.std.proofs.Common.{◌≡◌, ◌≤◌, ◌+◌, ◌^◌, ℕ, All, List, Result, length, ap, sym, ◌∙◌, subst, arith}
 use Rattle.smol_types.specs.declared.state.Mol.{Mol}
 use Rattle.smol_types.specs.declared.state.State.{State}
+use Rattle.smol_types.specs.Limits.{last_serial}
 use Rattle.smol_types.specs.State.{Ascend}
 use Rattle.smol_meaning.specs.Motion.{all_diffused}
 use Rattle.smol_meaning.specs.Placed.{IsPlaced}
 use Rattle.smol_meaning.specs.Step.{next_state, reacted, within_limit}
 use Rattle.smol_meaning.proofs.Diffusing.{diffused_ascend}
 use Rattle.smol_meaning.proofs.Going.{step_crosses_none, step_stays_in_boxes}
+use Rattle.smol_meaning.proofs.Kept.{Ascend-to}
 use Rattle.smol_meaning.proofs.Stepping.{diffused_few, diffused_near, mols_near}
 use Rattle.smol_step.specs.Advance.{IsAnswer}
 use Rattle.smol_step.proofs.Answered.{answer_fits, answer_rises}
@@ -32,13 +34,14 @@ reacted-requires-clause-count g c _ _ =
     c.diffuse.ensures.moved ∙ (λ i. all_diffused config (c.of_seed.ensures i) (state.step + 1) (c.into_vec-mols.ensures i)) in
     omega (arith, ap length mols, diffused_few config c.max_mol-most.ensures.sound c.args.seed state c.requires.fits)
 
-pub reacted-requires-clause-ascend : goal.reacted-requires-clause-ascend
-reacted-requires-clause-ascend g c _ _ =
+pub reacted-requires-clause-serials : goal.reacted-requires-clause-serials
+reacted-requires-clause-serials g c _ _ =
     let config = c.args.config.now in
     let state = c.args.state in
     let mols : c.diffuse.new.mols.items ≡ all_diffused config c.args.seed (state.step + 1) state.mols =
     c.diffuse.ensures.moved ∙ (λ i. all_diffused config (c.of_seed.ensures i) (state.step + 1) (c.into_vec-mols.ensures i)) in
-    (state.next, subst (Ascend 0 state.next) (sym mols) (diffused_ascend config c.args.seed (state.step + 1) 0 state.next state.mols c.requires.fits.serials))
+    subst (Ascend 0 last_serial) (sym mols)
+    (Ascend-to 0 state.next last_serial _ c.requires.fits.next (diffused_ascend config c.args.seed (state.step + 1) 0 state.next state.mols c.requires.fits.serials))
 
 pub reacted-requires-clause-placed : goal.reacted-requires-clause-placed
 reacted-requires-clause-placed g c _ _ =

@@ -8,10 +8,23 @@ use Rattle.smol_meaning.specs.Births.{IsEvent}
 use Rattle.smol_meaning.specs.Events.{birth_move, births_of, born}
 use Rattle.smol_meaning.specs.Placed.{IsMoveOf}
 use Rattle.smol_meaning.specs.Step.{births_in_step, events_of, mols_after, reactions_of_two, remains}
+use Rattle.smol_pairs.specs.Moved.{AreMoved}
+use Rattle.smol_meaning.proofs.Places.{coordinates_within}
 use Rattle.smol_meaning.proofs.Reacting.{events_are, events_few}
 use Rattle.smol_meaning.proofs.Stepping.{births_move}
 use Rattle.smol_step.proofs.Removed.{picked-filter}
 use Rattle.smol_step.proofs.advancing.reacted.Goals as goal
+
+pub react-requires-clause-moved : goal.react-requires-clause-moved
+react-requires-clause-moved g c _ _ =
+    let config = c.args.config.now in
+    subst (λ (mols : List Mol). AreMoved config mols) (sym c.deref.ensures.value) (record {
+      count = c.requires.count;
+      serials = c.requires.serials;
+      species = λ i d within. (c.requires.placed i d within).species;
+      places = λ i d within.
+          let stands = (c.requires.placed i d within).place in coordinates_within (2 ^ 57) config.dims _ (omega arith) stands.axes stands.coordinates;
+    })
 
 pub births-requires-clause-count : goal.births-requires-clause-count
 births-requires-clause-count g c =

@@ -5,6 +5,7 @@ use Rattle.std.proofs.lemmas.List.Sorted.{IsPartitionPoint-from_clause, IsPartit
 use Rattle.std.proofs.lemmas.Option.{get_or_from_slice_get, slice_get_within}
 use Rattle.std.specs.List.Sorted.{IsPartitionPoint}
 use Rattle.smol_types.specs.declared.state.Mol.{Mol}
+use Rattle.smol_types.specs.Limits.{last_serial}
 use Rattle.smol_types.specs.State.{Ascend}
 use Rattle.smol_meaning.proofs.Kept.{Ascend-below, Ascend-non_decreasing}
 use Rattle.smol_step.proofs.ranks.rank_of.Goals as goal
@@ -30,8 +31,8 @@ found mols next serial r i mol ascend bound parted at_i is =
 pub returns : goal.returns
 returns c = λ i mol at_i is.
     let mols = c.args.mols.now in
-    let ascend = c.requires.1 in
-    found mols c.requires.0 c.args.serial c.partition_point.result i mol ascend c.partition_point.ensures.bound
+    let ascend = c.requires in
+    found mols last_serial c.args.serial c.partition_point.result i mol ascend c.partition_point.ensures.bound
     (IsPartitionPoint-from_clause (λ (m : Mol). ltb m.serial c.args.serial) mols c.partition_point.result c.partition_point.ensures.partitioned
-    (IsPartitionedBy-ltb (λ (m : Mol). m.serial) mols c.args.serial (Ascend-non_decreasing 0 c.requires.0 mols ascend)) (λ a r f called. search (rules, tests)))
+    (IsPartitionedBy-ltb (λ (m : Mol). m.serial) mols c.args.serial (Ascend-non_decreasing 0 last_serial mols ascend)) (λ a r f called. search (rules, tests)))
     at_i is

@@ -1,6 +1,7 @@
 use Rattle.std.proofs.Common.{◌<◌, ◌++◌, ◌∷◌, [], ℕ, Bool, cond, List, length, get_or, map, take, ap, sym, ◌∙◌, subst, append_assoc, arith}
 use Rattle.std.specs.List.{items_where_true}
 use Rattle.std.proofs.lemmas.List.{append-nil, map-append}
+use Rattle.smol_types.specs.Limits.{last_serial}
 use Rattle.smol_plan.specs.declared.pair.Pair.{Pair}
 use Rattle.smol_meaning.specs.declared.event.Fired.{Fired}
 use Rattle.smol_meaning.specs.Encounters.{Encounter, encounters_of, event_of_two}
@@ -55,7 +56,7 @@ loop-i-preserved c =
                 ∙ append_assoc old (map (event_of_two config seed k) es) (event_of_two config seed k e ∷ [])
                 ∙ ap (λ (events : List Fired). old ++ events) (sym (ap (map (event_of_two config seed k)) more ∙ map-append (event_of_two config seed k) es (e ∷ [])));
             free = w.in_ok-react.ensures.free e of_pair
-                ∙ free_more config seed k mols c.requires.ascend.0 es e c.loop-i.reacting.free.items c.requires.ascend.1 at.2.met c.loop-i.invariant.free
+                ∙ free_more config seed k mols last_serial es e c.loop-i.reacting.free.items c.requires.serials at.2.met c.loop-i.invariant.free
                 ∙ ap (λ (es : List Encounter). map (remains config seed k es) mols) (sym more);
             seed = w.react.ensures.seed ∙ c.loop-i.invariant.seed;
           })

@@ -1,0 +1,36 @@
+-- Every run goes safely.
+use Rattle.std.proofs.Common.{◌≡◌, ℕ, List, [], Option, None, Some, IfSome, Ok, All, get_or}
+use Rattle.std.specs.Prelude.{slice_index_or}
+use Rattle.smol_edge.specs.Source.{Reading}
+use Rattle.smol_types.specs.declared.draft.Draft.{Draft}
+use Rattle.smol_config.proofs.WholeSound.{accepted_is_sound}
+use Rattle.smol_meaning.specs.Seen.{plates_of}
+use Rattle.smol_meaning.specs.Stretch.{Stretch}
+use Rattle.smol_meaning.proofs.Courses.{run_confines, run_is_kept}
+use Rattle.smol_meaning.proofs.Crossings.{crosses_none}
+use Rattle.smol_run.specs.declared.words.Job.{Job}
+use Rattle.smol_run.specs.declared.words.Job.TheVariants.{File}
+use Rattle.smol_run.specs.Outcome.{seed_of}
+use Rattle.smol_run.specs.Ways.{FileGoesSafely, JobGoesSafely, TextGoesSafely}
+
+text_safe : (seed : Option ℕ) (text : List ℕ) → TextGoesSafely seed text
+text_safe seed text draft run accepted ran =
+    let sound = accepted_is_sound text draft accepted in
+    record {
+      crosses_none = λ i d within. crosses_none (plates_of draft (get_or run.moves i d).species) (get_or run.moves i d).from (get_or run.moves i d).by;
+      confined = run_confines draft (seed_of seed draft) run sound ran;
+      states = (run_is_kept draft (seed_of seed draft) run sound ran).0;
+    }
+
+file_safe : (seed : Option ℕ) (contents : Option (List ℕ)) → FileGoesSafely seed contents
+file_safe seed None = tt
+file_safe seed (Some text) = text_safe seed text
+
+job_safe : (job : Option Job) (words : List (List ℕ)) (contents : List ℕ → Option (List ℕ)) → JobGoesSafely job words contents
+job_safe None words contents = tt
+job_safe (Some (File index seed)) words contents = file_safe seed (contents (slice_index_or words index []))
+
+-- whatever the words and the files are
+pub all_safe : (job : Option Job) (words : List (List ℕ)) (a : Option Reading) → IfSome a (λ reading. JobGoesSafely job words reading.contents)
+all_safe job words None = tt
+all_safe job words (Some reading) = job_safe job words reading.contents

@@ -1,0 +1,37 @@
+-- Where molecules go in the run that the words ask for.
+use Rattle.std.specs.Prelude.{◌≡◌, ℕ, List, [], Option, None, Some, Ok, All, slice_index_or}
+use Rattle.smol_geom.specs.declared.cuboid.Cuboid.{Cuboid}
+use Rattle.smol_types.specs.declared.draft.Draft.{Draft}
+use Rattle.smol_types.specs.State.{Fits}
+use Rattle.smol_config.specs.Reader.{config_of}
+use Rattle.smol_meaning.specs.Box.{Confines, IsClosed, IsInside}
+use Rattle.smol_meaning.specs.Crossing.{CrossesNone}
+use Rattle.smol_meaning.specs.Motion.{Move}
+use Rattle.smol_meaning.specs.Run.{run_of}
+use Rattle.smol_meaning.specs.Seen.{plates_of}
+use Rattle.smol_meaning.specs.Stretch.{Stretch}
+use Rattle.smol_run.specs.declared.words.Job.{Job}
+use Rattle.smol_run.specs.declared.words.Job.TheVariants.{File}
+use Rattle.smol_run.specs.Outcome.{seed_of}
+
+-- no way of the run crosses a face that reflects its species, each way that starts inside a closed reflecting box stays in it, and
+-- each state fits the configuration
+pub record GoesSafely (draft : Draft) (run : Stretch) : Type 0 where
+  pub crosses_none : All (λ (move : Move). CrossesNone (plates_of draft move.species) move.from move.by) run.moves
+  pub confined : All (λ (move : Move). (box : Cuboid) → IsClosed draft.dims (plates_of draft move.species) box → IsInside box move.from
+      → Confines (plates_of draft move.species) move.from move.by box) run.moves
+  pub states : All (Fits draft) run.states
+
+-- the run of this text, where it is accepted and begins, goes safely
+abbrev pub TextGoesSafely : Option ℕ → List ℕ → Type 0
+TextGoesSafely seed text =
+    (draft : Draft) (run : Stretch) → config_of text ≡ Ok draft → run_of draft (seed_of seed draft) ≡ Ok run → GoesSafely draft run
+
+abbrev pub FileGoesSafely : Option ℕ → Option (List ℕ) → Type 0
+FileGoesSafely seed None = Unit {0}
+FileGoesSafely seed (Some text) = TextGoesSafely seed text
+
+-- the run that the words ask for over these files goes safely, where there is one
+abbrev pub JobGoesSafely : Option Job → List (List ℕ) → (List ℕ → Option (List ℕ)) → Type 0
+JobGoesSafely None words contents = Unit {0}
+JobGoesSafely (Some (File index seed)) words contents = FileGoesSafely seed (contents (slice_index_or words index []))
