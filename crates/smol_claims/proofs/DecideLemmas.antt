@@ -23,7 +23,7 @@ use Rattle.smol_claims.specs.Layout.{slice_at, counter_at, decision_at}
 use Rattle.smol_claims.specs.Code.{code_of, decision_in, serial_decision, IsCodeOf}
 use Rattle.smol_claims.specs.Spelled.{is_taken_in, fired_in, is_decided_in, is_owed, spelled}
 use Rattle.smol_claims.specs.Rule.{WordsAndViews, IsTrueView, IsOfSome, KeepsRule}
-use Rattle.smol_claims.specs.Plays.{Known, Decides, deciding}
+use Rattle.smol_claims.specs.Plays.{SeatKnows, Decides, told_by_decision}
 use Rattle.smol_claims.proofs.ListLemmas.{has-but, has_link-append, has_link-links_from}
 use Rattle.smol_claims.proofs.CodeLemmas.{decision_in-code_of}
 use Rattle.smol_claims.proofs.SeatLemmas.{seat_inside, view_is, new_view, each_view, each_seat, shares-same, IsOfSome-set, IsTrueView-later}
@@ -199,7 +199,7 @@ module _ (pairs : List Pair) (workers : ℕ) (s : WordsAndViews) (r : KeepsRule 
       }
 
 -- a seat may decide a pair that it holds, as serial matching decides it
-pub decides : (pairs : List Pair) (workers slots id : ℕ) (me : Known) (j code : ℕ) → 0 < me.0.share → me.0.pairs ≡ pairs → has me.0.held j ≡ true → code ≡ code_of (serial_decision pairs j) → Allows (KeepsRule pairs workers) slots id me (decision_at pairs j) (λ _. code) (deciding (step slots (decision_at pairs j) code 0 maybe.none) me)
+pub decides : (pairs : List Pair) (workers slots id : ℕ) (me : SeatKnows) (j code : ℕ) → 0 < me.0.share → me.0.pairs ≡ pairs → has me.0.held j ≡ true → code ≡ code_of (serial_decision pairs j) → Allows (KeepsRule pairs workers) slots id me (decision_at pairs j) (λ _. code) (told_by_decision (step slots (decision_at pairs j) code 0 maybe.none) me)
 decides pairs workers slots id me j code active plan holds code_is s r deep at small = (
   view_deciding me.0 j,
   keeps,

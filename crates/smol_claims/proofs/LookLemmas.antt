@@ -16,7 +16,7 @@ use Rattle.smol_claims.specs.Layout.{decision_at}
 use Rattle.smol_claims.specs.Code.{IsCodeOf}
 use Rattle.smol_claims.specs.Spelled.{spelled}
 use Rattle.smol_claims.specs.Rule.{WordsAndViews, KeepsRule}
-use Rattle.smol_claims.specs.Plays.{Known, HoldsOrDecided, IsSourceFor, KnowsDecided, LooksAt, looking}
+use Rattle.smol_claims.specs.Plays.{SeatKnows, HoldsOrDecided, IsSourceFor, KnowsDecided, LooksAt, told_by_look}
 use Rattle.smol_claims.proofs.CodeLemmas.{not_zero}
 use Rattle.smol_claims.proofs.SeatLemmas.{view_is}
 use Rattle.smol_claims.proofs.StillLemmas.{after_step, IsStill, still_step, still_step_spelled}
@@ -79,7 +79,7 @@ module _ (pairs : List Pair) (workers : ℕ) (s : WordsAndViews) (r : KeepsRule 
       }
 
 -- a seat may look at a pair
-pub looks : (pairs : List Pair) (workers slots id : ℕ) (me : Known) (j : ℕ) → 0 < me.0.share → me.0.pairs ≡ pairs → j < length pairs → Allows (KeepsRule pairs workers) slots id me (decision_at pairs j) (λ n. n) (looking (step slots (decision_at pairs j) 0 0 maybe.none) me)
+pub looks : (pairs : List Pair) (workers slots id : ℕ) (me : SeatKnows) (j : ℕ) → 0 < me.0.share → me.0.pairs ≡ pairs → j < length pairs → Allows (KeepsRule pairs workers) slots id me (decision_at pairs j) (λ n. n) (told_by_look (step slots (decision_at pairs j) 0 0 maybe.none) me)
 looks pairs workers slots id me j active plan inside s r deep at small = (
   view_looking me.0 j (get_or s.words (decision_at pairs j) 0),
   keeps,

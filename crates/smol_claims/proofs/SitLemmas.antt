@@ -2,7 +2,7 @@
 use Rattle.std.proofs.Common.{◌≡◌, ◌∙◌, ap, arith}
 use Rattle.atomic_table.specs.Seated.{TableId}
 use Rattle.smol_claims.specs.declared.view.View.{View}
-use Rattle.smol_claims.specs.Plays.{Known}
+use Rattle.smol_claims.specs.Plays.{SeatKnows}
 use Rattle.smol_claims.specs.Task.{Task}
 use Rattle.smol_claims.specs.Hand.{SitsAt}
 
@@ -12,7 +12,7 @@ pub record IsSameSeat (v w : View) : Type 0 where
   pub workers : w.workers ≡ v.workers
   pub share : w.share ≡ v.share
 
-pub SitsAt-still : (table next : TableId) (k m : Known) (task : Task) → SitsAt table k task → next ≡ table → IsSameSeat k.0 m.0 → m.1 ≡ k.1 → SitsAt next m task
+pub SitsAt-still : (table next : TableId) (k m : SeatKnows) (task : Task) → SitsAt table k task → next ≡ table → IsSameSeat k.0 m.0 → m.1 ≡ k.1 → SitsAt next m task
 SitsAt-still table next k m task h same seat slots =
     record {
       at = same ∙ h.at;

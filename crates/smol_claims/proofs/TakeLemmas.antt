@@ -20,7 +20,7 @@ use Rattle.smol_claims.specs.Layout.{slice_at, counter_at, decision_at}
 use Rattle.smol_claims.specs.Code.{decision_in}
 use Rattle.smol_claims.specs.Spelled.{is_taken_in, fired_in, is_decided_in, spelled}
 use Rattle.smol_claims.specs.Rule.{WordsAndViews, IsTrueView, KeepsRule}
-use Rattle.smol_claims.specs.Plays.{Known, IsNew, taking}
+use Rattle.smol_claims.specs.Plays.{SeatKnows, IsNew, told_by_take}
 use Rattle.smol_claims.proofs.ListLemmas.{has-append, has-free_below}
 use Rattle.smol_claims.proofs.SeatLemmas.{view_is, each_view, same_part, each_seat, shares-same, IsOfSome-set, is_owed-same, IsTrueView-later}
 use Rattle.smol_claims.proofs.StillLemmas.{after_step, IsStill, still_step, still_step_spelled}
@@ -169,11 +169,11 @@ module _ (pairs : List Pair) (workers : ℕ) (s : WordsAndViews) (r : KeepsRule 
       found_is
 
 -- a seat may take a slice
-pub takes : (pairs : List Pair) (workers slots id : ℕ) (me : Known) (slice : ℕ) → 0 < me.0.share → slice < slice_count pairs → Allows (KeepsRule pairs workers) slots id me (slice_at slice) (λ _. 1) (taking (step slots (slice_at slice) 1 0 maybe.none) me)
+pub takes : (pairs : List Pair) (workers slots id : ℕ) (me : SeatKnows) (slice : ℕ) → 0 < me.0.share → slice < slice_count pairs → Allows (KeepsRule pairs workers) slots id me (slice_at slice) (λ _. 1) (told_by_take (step slots (slice_at slice) 1 0 maybe.none) me)
 takes pairs workers slots id me slice active inside s r deep at small = (
   view_taking me.0 slice (get_or s.words (slice_at slice) 0 == 0),
   keeps,
   tt,
   take_kept pairs workers s r id me.0 at active slice inside,
-  (refl, λ k l e. let same : slice ≡ k = omega (arith, e) in subst (λ q. Rattle.smol_claims.specs.Plays.Takes me.0 q (get_or s.words (slice_at slice) 0) (view_taking me.0 slice (get_or s.words (slice_at slice) 0 == 0))) same record { view = refl; new = take_fresh pairs workers s r id me.0 at active slice inside }),
+  (refl, λ k l e. let same : slice ≡ k = omega (arith, e) in subst (λ q. Rattle.smol_claims.specs.Plays.TakesSlice me.0 q (get_or s.words (slice_at slice) 0) (view_taking me.0 slice (get_or s.words (slice_at slice) 0 == 0))) same record { view = refl; new = take_fresh pairs workers s r id me.0 at active slice inside }),
 )

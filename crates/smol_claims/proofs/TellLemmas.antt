@@ -27,7 +27,7 @@ use Rattle.smol_claims.specs.Layout.{slice_at, counter_at, decision_at}
 use Rattle.smol_claims.specs.Code.{decision_in, IsCodeOf}
 use Rattle.smol_claims.specs.Spelled.{is_taken_in, fired_in, is_decided_in, is_owed, spelled}
 use Rattle.smol_claims.specs.Rule.{WordsAndViews, IsTrueView, KeepsRule}
-use Rattle.smol_claims.specs.Plays.{Known, Tells, telling}
+use Rattle.smol_claims.specs.Plays.{SeatKnows, TellsLink, told_by_tell}
 use Rattle.smol_claims.proofs.ListLemmas.{has_link-without}
 use Rattle.smol_claims.proofs.SeatLemmas.{view_is, each_view, each_seat, shares-same, IsOfSome-set, IsTrueView-later}
 use Rattle.smol_claims.proofs.StillLemmas.{after_step}
@@ -228,7 +228,7 @@ module _ (pairs : List Pair) (workers : ℕ) (s : WordsAndViews) (r : KeepsRule 
   not_all_told : AllTold pairs st l.pair → ⊥
   not_all_told told = both_ways _ once.untold (told l.side linked)
 
-  pub tell_tells : Tells v l (get_or s.words (counter_at pairs l.pair) 0) (view_telling v l (get_or s.words (counter_at pairs l.pair) 0 == 1))
+  pub tell_tells : TellsLink v l (get_or s.words (counter_at pairs l.pair) 0) (view_telling v l (get_or s.words (counter_at pairs l.pair) 0 == 1))
   tell_tells =
       record {
         view = refl;
@@ -239,7 +239,7 @@ module _ (pairs : List Pair) (workers : ℕ) (s : WordsAndViews) (r : KeepsRule 
       }
 
 -- a seat may tell a link that it owes
-pub tells : (pairs : List Pair) (workers slots id : ℕ) (me : Known) (j : ℕ) (side : Side) → 0 < me.0.share → me.0.pairs ≡ pairs → has_link me.0.owed j side ≡ true → Allows (KeepsRule pairs workers) slots id me (counter_at pairs j) (λ n. (n + (2 ^ 64 - 1)) % 2 ^ 64) (telling side (step slots (counter_at pairs j) 1 0 maybe.none) me)
+pub tells : (pairs : List Pair) (workers slots id : ℕ) (me : SeatKnows) (j : ℕ) (side : Side) → 0 < me.0.share → me.0.pairs ≡ pairs → has_link me.0.owed j side ≡ true → Allows (KeepsRule pairs workers) slots id me (counter_at pairs j) (λ n. (n + (2 ^ 64 - 1)) % 2 ^ 64) (told_by_tell side (step slots (counter_at pairs j) 1 0 maybe.none) me)
 tells pairs workers slots id me j side active plan owed s r deep at small =
     let l : Link = record { pair = j; side = side } in
     let x : ℕ = get_or s.words (counter_at pairs j) 0 in
@@ -249,5 +249,5 @@ tells pairs workers slots id me j side active plan owed s r deep at small =
       keeps,
       tt,
       subst (λ (z : ℕ). KeepsRule pairs workers (stepped s (counter_at pairs j) z id me.1 (view_telling me.0 l (x == 1)) keeps)) less (tell_kept pairs workers s r id me.0 at active l owed),
-      (refl, λ k h e. let there : counter_at pairs j ≡ counter_at pairs k = e ∙ ap (λ ps. counter_at ps k) plan in let same : j ≡ k = omega (arith, there) in subst (λ q. Tells me.0 (record { pair = q; side = side }) x (view_telling me.0 l (x == 1))) same (tell_tells pairs workers s r id me.0 at active l owed)),
+      (refl, λ k h e. let there : counter_at pairs j ≡ counter_at pairs k = e ∙ ap (λ ps. counter_at ps k) plan in let same : j ≡ k = omega (arith, there) in subst (λ q. TellsLink me.0 (record { pair = q; side = side }) x (view_telling me.0 l (x == 1))) same (tell_tells pairs workers s r id me.0 at active l owed)),
     )

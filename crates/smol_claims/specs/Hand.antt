@@ -4,7 +4,7 @@ use Rattle.atomic_table.specs.Seated.{TableId}
 use Rattle.smol_plan.specs.Machine.{slice_count}
 use Rattle.smol_claims.specs.declared.view.View.{View}
 use Rattle.smol_claims.specs.View.{has, times, newcomer}
-use Rattle.smol_claims.specs.Plays.{Known}
+use Rattle.smol_claims.specs.Plays.{SeatKnows}
 use Rattle.smol_claims.specs.Task.{Task}
 
 -- its table, and what its seat knows
@@ -30,7 +30,7 @@ pub record HasRun (task : Task) (share : ℕ) (worker : Hand) : Type 0 where
   pub share_is : worker.view.share ≡ share
 
 -- a seat of this matching that is not spent
-pub record SitsAt (table : TableId) (known : Known) (task : Task) : Type 0 where
+pub record SitsAt (table : TableId) (known : SeatKnows) (task : Task) : Type 0 where
   pub at : table ≡ task.table
   pub pairs : known.0.pairs ≡ task.pairs
   pub workers : known.0.workers ≡ task.workers

@@ -2,7 +2,7 @@
 use Rattle.std.specs.Prelude.{◌≡◌, ◌<◌, ◌≤◌, ◌^◌, length, vec_len}
 use Rattle.smol_plan.specs.Pair.{IsOrdered}
 use Rattle.smol_claims.specs.declared.claims.Claims.TheInside.{Inside}
-use Rattle.smol_claims.specs.Layout.{word_count}
+use Rattle.smol_claims.specs.Layout.{claim_word_count}
 use Rattle.smol_claims.specs.Task.{Task}
 
 abbrev pub task_of : Inside → Task
@@ -14,8 +14,8 @@ task_of claims =
 pub record AreKept (claims : Inside) : Type 0 where
   pub ordered : IsOrdered claims.setup.plan
   pub key : claims.table.shared.key ≡ claims.setup
-  pub words : claims.table.shared.table_id.words ≡ word_count claims.setup.plan
+  pub words : claims.table.shared.table_id.words ≡ claim_word_count claims.setup.plan
   pub slots : claims.table.shared.table_id.slots ≡ 0
-  pub room : word_count claims.setup.plan < 2 ^ 64
+  pub room : claim_word_count claims.setup.plan < 2 ^ 64
   pub answer : vec_len claims.answer ≡ length claims.setup.plan
   pub some : 1 ≤ claims.setup.workers

@@ -27,21 +27,21 @@ pub record HasSeat (pairs : List Pair) (workers : ℕ) (s : WordsAndViews) (id :
   pub share : 0 < v.share
 
 -- what a word is
-abbrev pub word_at : WordsAndViews → ℕ → ℕ
-word_at s i = slice_index s.words i
+abbrev pub found_at : WordsAndViews → ℕ → ℕ
+found_at s i = slice_index s.words i
 
 -- the word i becomes n, and the view of the seat w
 abbrev pub after : WordsAndViews → ℕ → ℕ → ℕ → View → WordsAndViews
 after s i n id w = stepped s i n id [] w keeps
 
 -- the rule is kept, and the step was the event, which was allowed
-pub record IsEvent (pairs : List Pair) (workers : ℕ) (s : WordsAndViews) (event : Event) (next : WordsAndViews) : Type 0 where
+pub record MakesEvent (pairs : List Pair) (workers : ℕ) (s : WordsAndViews) (event : Event) (next : WordsAndViews) : Type 0 where
   pub rule : KeepsRule pairs workers next
   pub allowed : IsAllowed (spelled_by pairs s) event
   pub effect_is : spelled_by pairs next ≡ effect pairs (spelled_by pairs s) event
 
 -- the rule is kept, and the same state is spelled
-pub record IsNoEvent (pairs : List Pair) (workers : ℕ) (s next : WordsAndViews) : Type 0 where
+pub record MakesNoEvent (pairs : List Pair) (workers : ℕ) (s next : WordsAndViews) : Type 0 where
   pub rule : KeepsRule pairs workers next
   pub same : spelled_by pairs next ≡ spelled_by pairs s
 
@@ -57,39 +57,39 @@ abbrev pub TakeIsEvent : Type 0
 TakeIsEvent =
     (pairs : List Pair) (workers : ℕ) (s : WordsAndViews) (id : ℕ) (v : View) (slice : ℕ) →
     HasSeat pairs workers s id v → slice < slice_count pairs →
-    let is_new = word_at s (slice_at slice) == 0 in
+    let is_new = found_at s (slice_at slice) == 0 in
     let next = after s (slice_at slice) 1 id (view_taking v slice is_new) in
-    MatchBool is_new (IsEvent pairs workers s (Take id slice) next) (IsNoEvent pairs workers s next)
+    MatchBool is_new (MakesEvent pairs workers s (Take id slice) next) (MakesNoEvent pairs workers s next)
 
 -- a look is none
 abbrev pub LookIsNoEvent : Type 0
 LookIsNoEvent =
     (pairs : List Pair) (workers : ℕ) (s : WordsAndViews) (id : ℕ) (v : View) (j : ℕ) →
     HasSeat pairs workers s id v → j < length pairs →
-    let found = word_at s (decision_at pairs j) in
-    IsNoEvent pairs workers s (after s (decision_at pairs j) found id (view_looking v j found))
+    let found = found_at s (decision_at pairs j) in
+    MakesNoEvent pairs workers s (after s (decision_at pairs j) found id (view_looking v j found))
 
 -- a decision is the machine's
 abbrev pub DecideIsEvent : Type 0
 DecideIsEvent =
     (pairs : List Pair) (workers : ℕ) (s : WordsAndViews) (id : ℕ) (v : View) (j : ℕ) →
     HasSeat pairs workers s id v → has v.held j ≡ true →
-    IsEvent pairs workers s (Decide id j) (after s (decision_at pairs j) (code_of (serial_decision pairs j)) id (view_deciding v j))
+    MakesEvent pairs workers s (Decide id j) (after s (decision_at pairs j) (code_of (serial_decision pairs j)) id (view_deciding v j))
 
 -- a tell is the machine's
 abbrev pub TellIsEvent : Type 0
 TellIsEvent =
     (pairs : List Pair) (workers : ℕ) (s : WordsAndViews) (id : ℕ) (v : View) (l : Link) →
     HasSeat pairs workers s id v → has_link v.owed l.pair l.side ≡ true →
-    let found = word_at s (counter_at pairs l.pair) in
-    IsEvent pairs workers s (Tell id l.pair l.side) (after s (counter_at pairs l.pair) (found - 1) id (view_telling v l (found == 1)))
+    let found = found_at s (counter_at pairs l.pair) in
+    MakesEvent pairs workers s (Tell id l.pair l.side) (after s (counter_at pairs l.pair) (found - 1) id (view_telling v l (found == 1)))
 
 -- a split is none
 abbrev pub SplitIsNoEvent : Type 0
 SplitIsNoEvent =
     (pairs : List Pair) (workers : ℕ) (s : WordsAndViews) (id : ℕ) (v : View) →
     HasSeat pairs workers s id v → 1 < v.share →
-    IsNoEvent pairs workers s (record s { views = slice_set s.views id (view_splitting v) ++ view_of_new v ∷ [] })
+    MakesNoEvent pairs workers s (record s { views = slice_set s.views id (view_splitting v) ++ view_of_new v ∷ [] })
 
 -- a join is none
 abbrev pub JoinIsNoEvent : Type 0
@@ -97,4 +97,4 @@ JoinIsNoEvent =
     (pairs : List Pair) (workers : ℕ) (s : WordsAndViews) (id : ℕ) (v : View) (other : ℕ) (w : View) →
     HasSeat pairs workers s id v → ¬ (other ≡ id) → get_elem? s.views other ≡ maybe.some w →
     w.held ≡ [] → w.owed ≡ [] →
-    IsNoEvent pairs workers s (record s { views = slice_set (slice_set s.views id (view_joining v w)) other spent })
+    MakesNoEvent pairs workers s (record s { views = slice_set (slice_set s.views id (view_joining v w)) other spent })

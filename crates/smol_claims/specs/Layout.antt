@@ -16,5 +16,5 @@ abbrev pub decision_at : List Pair → ℕ → ℕ
 decision_at pairs j = 1 + slice_count pairs + length pairs + j
 
 -- how many words there are; the first one is 0 always
-abbrev pub word_count : List Pair → ℕ
-word_count pairs = 1 + slice_count pairs + length pairs + length pairs
+abbrev pub claim_word_count : List Pair → ℕ
+claim_word_count pairs = 1 + slice_count pairs + length pairs + length pairs

@@ -12,11 +12,11 @@ use Rattle.smol_claims.specs.Layout.{slice_at, counter_at, decision_at}
 use Rattle.smol_claims.specs.Code.{IsCodeOf}
 
 -- what a seat knows, and the slots that it has taken, of which there are none here
-abbrev pub Known : Type 0
-Known = Me (Unit {0}) View
+abbrev pub SeatKnows : Type 0
+SeatKnows = Me (Unit {0}) View
 
-abbrev pub Move : Type 0
-Move = Step (Unit {0})
+abbrev pub SeatStep : Type 0
+SeatStep = Step (Unit {0})
 
 -- the seat neither holds the pair nor has decided it
 pub record IsNew (v : View) (j : ℕ) : Type 0 where
@@ -24,7 +24,7 @@ pub record IsNew (v : View) (j : ℕ) : Type 0 where
   pub mine : has v.mine j ≡ false
 
 -- a take of the slice that found this word
-pub record Takes (v : View) (slice found : ℕ) (w : View) : Type 0 where
+pub record TakesSlice (v : View) (slice found : ℕ) (w : View) : Type 0 where
   pub view : w ≡ view_taking v slice (found == 0)
   -- the pairs that it holds now are new to it
   pub new : found ≡ 0 → (j : ℕ) → has (free_pairs v.pairs slice) j ≡ true → IsNew v j
@@ -64,26 +64,26 @@ pub record Decides (v : View) (j : ℕ) (w : View) : Type 0 where
   pub new : has v.mine j ≡ false
 
 -- a tell of the link that found this counter
-pub record Tells (v : View) (l : Link) (found : ℕ) (w : View) : Type 0 where
+pub record TellsLink (v : View) (l : Link) (found : ℕ) (w : View) : Type 0 where
   pub view : w ≡ view_telling v l (found == 1)
   pub new : found ≡ 1 → IsNew v l.pair
 
 -- what a step on a word of a slice tells
-abbrev pub taking : Move → Known → ℕ → Known → Type 0
-taking move me found me' =
-    (me'.1 ≡ me.1) × ((slice : ℕ) → slice < slice_count me.0.pairs → move.word ≡ slice_at slice → Takes me.0 slice found me'.0)
+abbrev pub told_by_take : SeatStep → SeatKnows → ℕ → SeatKnows → Type 0
+told_by_take move me found me' =
+    (me'.1 ≡ me.1) × ((slice : ℕ) → slice < slice_count me.0.pairs → move.word ≡ slice_at slice → TakesSlice me.0 slice found me'.0)
 
 -- what a load of a word of a pair's decision tells
-abbrev pub looking : Move → Known → ℕ → Known → Type 0
-looking move me found me' =
+abbrev pub told_by_look : SeatStep → SeatKnows → ℕ → SeatKnows → Type 0
+told_by_look move me found me' =
     (me'.1 ≡ me.1) × ((j : ℕ) → j < length me.0.pairs → move.word ≡ decision_at me.0.pairs j → LooksAt me.0 j found me'.0)
 
 -- what a step on a word of a pair's decision tells
-abbrev pub deciding : Move → Known → ℕ → Known → Type 0
-deciding move me found me' =
+abbrev pub told_by_decision : SeatStep → SeatKnows → ℕ → SeatKnows → Type 0
+told_by_decision move me found me' =
     (me'.1 ≡ me.1) × ((j : ℕ) → j < length me.0.pairs → move.word ≡ decision_at me.0.pairs j → Decides me.0 j me'.0)
 
 -- what a step on a counter tells, where it is for the link on this side
-abbrev pub telling : Side → Move → Known → ℕ → Known → Type 0
-telling side move me found me' =
-    (me'.1 ≡ me.1) × ((j : ℕ) → j < length me.0.pairs → move.word ≡ counter_at me.0.pairs j → Tells me.0 (record { pair = j; side = side }) found me'.0)
+abbrev pub told_by_tell : Side → SeatStep → SeatKnows → ℕ → SeatKnows → Type 0
+told_by_tell side move me found me' =
+    (me'.1 ≡ me.1) × ((j : ℕ) → j < length me.0.pairs → move.word ≡ counter_at me.0.pairs j → TellsLink me.0 (record { pair = j; side = side }) found me'.0)

@@ -10,7 +10,7 @@ use Rattle.smol_plan.specs.Good.{Good}
 use Rattle.smol_claims.specs.declared.view.Look.{Look}
 use Rattle.smol_claims.specs.declared.view.View.{View}
 use Rattle.smol_claims.specs.View.{has, view_at}
-use Rattle.smol_claims.specs.Layout.{slice_at, counter_at, decision_at, word_count}
+use Rattle.smol_claims.specs.Layout.{slice_at, counter_at, decision_at, claim_word_count}
 use Rattle.smol_claims.specs.Code.{IsCodeOf}
 use Rattle.smol_claims.specs.Spelled.{is_taken_in, fired_in, spelled}
 
@@ -45,7 +45,7 @@ IsOfSome views j = (w : ℕ) × (has (view_at views w).mine j ≡ true)
 -- what holds between any two steps
 pub record KeepsRule (pairs : List Pair) (workers : ℕ) (s : WordsAndViews) : Type 0 where
   -- there are as many words as the plan wants, the first is 0, and those of slices are 0 or 1
-  pub wide : length s.words ≡ word_count pairs
+  pub wide : length s.words ≡ claim_word_count pairs
   pub first : slice_index s.words 0 ≡ 0
   pub slices : (slice : ℕ) → slice < slice_count pairs → slice_index s.words (slice_at slice) ≤ 1
   -- the words and views spell a good state

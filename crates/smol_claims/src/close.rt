@@ -4,7 +4,7 @@ ghost use Rattle.std.specs.Mem.Slots.{slots_items, slots_len, IsFull};
 ghost use Rattle.smol_plan.specs.Matching.{serial};
 ghost use Rattle.smol_plan.specs.Machine.{slice_count};
 ghost use Rattle.smol_claims.specs.View.{view_joining};
-ghost use Rattle.smol_claims.specs.Layout.{decision_at, word_count};
+ghost use Rattle.smol_claims.specs.Layout.{decision_at, claim_word_count};
 ghost use Rattle.smol_claims.specs.Code.{decision_in, serial_decision};
 ghost use Rattle.smol_claims.specs.Hand.{SitsAt, WorksFor};
 
@@ -20,9 +20,9 @@ use std::alloc::Global;
 // Whether each pair fired, from the words of a matching in which all are decided.
 fn read_answer(plan: &Plan, closed: &Closed<(), Global>, mut answer: Vec<bool>) -> Vec<bool>
     requires as_many { vec_len answer ≡ length plan.now }
-    requires words { slots_len closed.now.words ≡ word_count plan.now }
+    requires words { slots_len closed.now.words ≡ claim_word_count plan.now }
     requires full { IsFull closed.now.words }
-    requires room { word_count plan.now < 2 ^ 64 }
+    requires room { claim_word_count plan.now < 2 ^ 64 }
     requires decided { (j : ℕ) → j < length plan.now →
         decision_in (slice_index (slots_items closed.now.words) (decision_at plan.now j)) ≡ Some (serial_decision plan.now j) }
     ensures serial { result.items ≡ serial plan.now }

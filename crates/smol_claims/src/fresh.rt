@@ -1,16 +1,16 @@
 //! The words of a matching of which nothing has happened.
 ghost use Rattle.std.specs.Prelude.{◌≡◌, ◌+◌, ◌<◌, ◌≤◌, ◌^◌, length, None, IfOk, OnOk, IfSome};
 ghost use Rattle.smol_plan.specs.Machine.{first_state, left_of};
-ghost use Rattle.smol_claims.specs.Layout.{word_count};
+ghost use Rattle.smol_claims.specs.Layout.{claim_word_count};
 ghost use Rattle.smol_claims.specs.Fresh.{AreFresh};
 
 use smol_plan::{Plan, Side};
 use std::alloc::{AllocError, Global};
 
 // How many words a plan wants, where so many can be.
-fn word_count(plan: &Plan) -> Option<usize>
-    ensures count { IfSome result (λ count. count ≡ word_count plan.now) }
-    ensures none { result ≡ None → 2 ^ 64 ≤ word_count plan.now }
+fn claim_word_count(plan: &Plan) -> Option<usize>
+    ensures count { IfSome result (λ count. count ≡ claim_word_count plan.now) }
+    ensures none { result ≡ None → 2 ^ 64 ≤ claim_word_count plan.now }
 {
     let len = plan.len();
     len.checked_add(len)?
@@ -31,9 +31,9 @@ fn link_count(plan: &Plan, pair: usize) -> u64
 /// Each counter is the number of the links of its pair, and each other word is 0.
 pub(crate) fn fresh_words(alloc: Global, plan: &Plan) -> Result<Vec<u64>, AllocError>
     ensures fresh { IfOk result (λ words. AreFresh plan.now words.items) }
-    ensures room { OnOk result (word_count plan.now < 2 ^ 64) }
+    ensures room { OnOk result (claim_word_count plan.now < 2 ^ 64) }
 {
-    let Some(count) = word_count(plan) else {
+    let Some(count) = claim_word_count(plan) else {
         return Err(AllocError);
     };
     let mut words = vec![in alloc; 0u64; count]?;

@@ -1,7 +1,7 @@
 //! The kinds of steps, and what each tells the seat that makes it.
 ghost use Rattle.smol_plan.specs.declared.pair.Side.TheVariants.{Low, High};
 ghost use Rattle.smol_claims.specs.View.{view_splitting, view_of_new, view_joining, spent};
-ghost use Rattle.smol_claims.specs.Plays.{taking, looking, deciding, telling};
+ghost use Rattle.smol_claims.specs.Plays.{told_by_take, told_by_look, told_by_decision, told_by_tell};
 
 use crate::view::View;
 use atomic_table::{Join, Play, Split};
@@ -28,23 +28,23 @@ pub(crate) struct Splitting;
 pub(crate) struct Joining;
 
 impl Play<(), View> for Taking {
-    ghost then = { taking };
+    ghost then = { told_by_take };
 }
 
 impl Play<(), View> for Looking {
-    ghost then = { looking };
+    ghost then = { told_by_look };
 }
 
 impl Play<(), View> for Deciding {
-    ghost then = { deciding };
+    ghost then = { told_by_decision };
 }
 
 impl Play<(), View> for TellingLow {
-    ghost then = { telling Low };
+    ghost then = { told_by_tell Low };
 }
 
 impl Play<(), View> for TellingHigh {
-    ghost then = { telling High };
+    ghost then = { told_by_tell High };
 }
 
 impl Split<View> for Splitting {

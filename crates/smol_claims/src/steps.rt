@@ -2,7 +2,7 @@
 ghost use Rattle.std.specs.Prelude.{◌≡◌, ℕ, ◌+◌, ◌<◌, ◌==◌, true, length};
 ghost use Rattle.smol_plan.specs.Machine.{slice_count};
 ghost use Rattle.smol_claims.specs.View.{has, has_link, free_pairs, view_taking, view_telling};
-ghost use Rattle.smol_claims.specs.Layout.{counter_at, decision_at, word_count};
+ghost use Rattle.smol_claims.specs.Layout.{counter_at, decision_at, claim_word_count};
 ghost use Rattle.smol_claims.specs.Code.{serial_decision};
 ghost use Rattle.smol_claims.specs.Plays.{IsNew, LooksAt, Decides};
 ghost use Rattle.smol_claims.specs.Hand.{SitsAt};
@@ -19,7 +19,7 @@ impl Claims {
     fn counter_at(&self, pair: usize) -> usize
         requires { pair < length self.now.pairs }
         ensures value { result ≡ counter_at self.now.pairs pair }
-        ensures inside { result < word_count self.now.pairs }
+        ensures inside { result < claim_word_count self.now.pairs }
     {
         1 + self.setup.plan.slices() + pair
     }
@@ -28,7 +28,7 @@ impl Claims {
     fn decision_at(&self, pair: usize) -> usize
         requires { pair < length self.now.pairs }
         ensures value { result ≡ decision_at self.now.pairs pair }
-        ensures inside { result < word_count self.now.pairs }
+        ensures inside { result < claim_word_count self.now.pairs }
     {
         1 + self.setup.plan.slices() + self.setup.plan.len() + pair
     }

@@ -1,6 +1,6 @@
 use Rattle.std.proofs.Common.{◌≡◌, ◌<◌, length, refl, sym, ◌∙◌, ap, subst, arith}
 use Rattle.smol_claims.specs.Task.{Task}
-use Rattle.smol_claims.specs.Layout.{decision_at, word_count}
+use Rattle.smol_claims.specs.Layout.{decision_at, claim_word_count}
 use Rattle.smol_claims.specs.Code.{code_of, serial_decision}
 use Rattle.smol_claims.specs.Plays.{Decides}
 use Rattle.smol_claims.specs.KeptClaims.{task_of}
@@ -14,7 +14,7 @@ swap-requires c =
     let place : c.decision_at-place.result ≡ decision_at c.self.inside.setup.plan c.args.pair = c.decision_at-place.ensures.value ∙ ap (λ (t : Task). decision_at t.pairs c.args.pair) is in
     let code : c.code_of.result ≡ code_of (serial_decision c.self.inside.setup.plan c.args.pair) = c.code_of.ensures ∙ ap code_of (c.requires.serial ∙ ap (λ (t : Task). serial_decision t.pairs c.args.pair) is) in (
       c.requires.sits.at ∙ ap (λ t. t.table) is,
-      omega (arith, c.self.invariant.words, c.decision_at-place.ensures.inside, ap (λ (t : Task). word_count t.pairs) is),
+      omega (arith, c.self.invariant.words, c.decision_at-place.ensures.inside, ap (λ (t : Task). claim_word_count t.pairs) is),
       rw (c.self.invariant.key, place) (decides c.self.inside.setup.plan c.self.inside.setup.workers _ _ c.args.seat.now.me c.args.pair c.code_of.result c.requires.sits.share (c.requires.sits.pairs ∙ ap (λ t. t.pairs) is) c.requires.holds code),
     )
 

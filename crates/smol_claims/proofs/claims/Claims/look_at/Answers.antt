@@ -1,6 +1,6 @@
 use Rattle.std.proofs.Common.{◌≡◌, ◌<◌, length, refl, sym, ◌∙◌, ap, subst, arith}
 use Rattle.smol_claims.specs.Task.{Task}
-use Rattle.smol_claims.specs.Layout.{decision_at, word_count}
+use Rattle.smol_claims.specs.Layout.{decision_at, claim_word_count}
 use Rattle.smol_claims.specs.Plays.{LooksAt}
 use Rattle.smol_claims.specs.KeptClaims.{task_of}
 use Rattle.smol_claims.proofs.LookLemmas.{looks}
@@ -13,7 +13,7 @@ load-requires c =
     let inside : c.args.pair < length c.self.inside.setup.plan = subst (λ (t : Task). c.args.pair < length t.pairs) is c.requires.pair in
     let place : c.decision_at-place.result ≡ decision_at c.self.inside.setup.plan c.args.pair = c.decision_at-place.ensures.value ∙ ap (λ (t : Task). decision_at t.pairs c.args.pair) is in (
       c.requires.sits.at ∙ ap (λ t. t.table) is,
-      omega (arith, c.self.invariant.words, c.decision_at-place.ensures.inside, ap (λ (t : Task). word_count t.pairs) is),
+      omega (arith, c.self.invariant.words, c.decision_at-place.ensures.inside, ap (λ (t : Task). claim_word_count t.pairs) is),
       rw (c.self.invariant.key, place) (looks c.self.inside.setup.plan c.self.inside.setup.workers _ _ c.args.seat.now.me c.args.pair c.requires.sits.share (c.requires.sits.pairs ∙ ap (λ t. t.pairs) is) inside),
     )
 
