@@ -11,7 +11,7 @@ use Rattle.smol_reactions.specs.Numbered.{numbered, changed, nearer, nearest}
 use Rattle.smol_reactions.specs.ReactionSaid.{ReactionSaid, reacts, binds, happens, places}
 use Rattle.smol_reactions.specs.Content.{schemes_of, of_reaction, radius_said, chance_said, offset_by, offset_said, unbinding, unbinding_said, kind_of, kind_said, product_made, reaction_made, reactions_of, kinds_of, chances_of}
 use Rattle.smol_reactions.specs.Changes.{fresh_product, fresh_reaction, with_chance, with_offset, with_placement, with_radius}
-use Rattle.smol_reactions.specs.Table.{AreOrdered}
+use Rattle.smol_reactions.specs.Order.{AreOrdered}
 use Rattle.smol_reactions.proofs.Lists.{numbered-push, numbered_same, numbered_changed}
 
 -- what is said of this reaction
