@@ -1,7 +1,6 @@
 -- How likely reactions of one species are together.
-use Rattle.std.proofs.Common.{◌≡◌, ℕ, ◌+◌, ◌*◌, ◌/◌, ◌≤◌, Bool, true, false, List, [], ◌∷◌, length, Option, None, Some, sum_by, if◌then◌else◌, unwrap_or, refl, sym, ap, ◌∙◌, arith, subst}
+use Rattle.std.proofs.Common.{◌≡◌, ℕ, ◌+◌, ◌*◌, ◌/◌, ◌≤◌, Bool, true, false, List, [], ◌∷◌, length, Option, None, Some, sum_by, if◌then◌else◌, unwrap_or, refl, arith}
 use Rattle.std.proofs.lemmas.List.Sums.{sum_by-cons}
-use Rattle.smol_types.specs.declared.reaction.Reaction.{Reaction}
 use Rattle.smol_types.specs.Limits.{certain}
 use Rattle.smol_types.specs.Reactions.{reacts_alone, share_of}
 use Rattle.smol_reactions.specs.declared.scheme.Scheme.{Scheme}

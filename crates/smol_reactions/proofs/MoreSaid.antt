@@ -1,9 +1,7 @@
 -- What one line more says of reactions.
-use Rattle.std.proofs.Common.{◌≡◌, ◌≢◌, ℕ, ℤ, ◌+◌, ◌<◌, ◌≤◌, Bool, true, false, nat_eq, List, [], ◌∷◌, ◌++◌, length, map, Option, None, Some, refl, sym, ap, ◌∙◌, arith, ne_eqb, eq-eqb, if◌then◌else◌, unwrap_or, length-append}
+use Rattle.std.proofs.Common.{◌≡◌, ◌≢◌, ℕ, ℤ, ◌+◌, ◌≤◌, List, [], ◌∷◌, ◌++◌, length, map, Option, None, Some, refl, sym, ap, ◌∙◌, arith, ne_eqb, eq-eqb, length-append}
 use Rattle.smol_num.specs.declared.quantities.Micro.{Micro}
 use Rattle.smol_geom.specs.declared.place.Step3.{Step3}
-use Rattle.smol_types.specs.declared.reaction.Product.{Product}
-use Rattle.smol_types.specs.declared.reaction.Reaction.{Reaction}
 use Rattle.smol_reactions.specs.declared.scheme.Scheme.{Scheme}
 use Rattle.smol_reactions.specs.declared.product_placement.ProductPlacement.{ProductPlacement}
 use Rattle.smol_reactions.specs.declared.product_placement.ProductPlacement.TheVariants.{Offset, Unbind}
