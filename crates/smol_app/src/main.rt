@@ -37,5 +37,5 @@ where
 
 fn main(rt: HostRuntime) -> ExitCode {
     let status = run(&rt).unwrap_or(Status::Memory);
-    ExitCode::from(status as u8)
+    ExitCode::from(status.code())
 }

@@ -1,5 +1,6 @@
 -- How the words of a matching are kept.
 use Rattle.std.specs.Prelude.{◌≡◌, ◌<◌, ◌≤◌, ◌^◌, length, vec_len}
+use Rattle.smol_plan.specs.Pair.{IsOrdered}
 use Rattle.smol_claims.specs.declared.claims.Claims.TheInside.{Inside}
 use Rattle.smol_claims.specs.Layout.{word_count}
 use Rattle.smol_claims.specs.Task.{Task}
@@ -8,10 +9,13 @@ abbrev pub task_of : Inside → Task
 task_of claims =
     record { pairs = claims.setup.plan; workers = claims.setup.workers; table = claims.table.shared.table_id }
 
--- the table is that of the plan, with room for every word; there is a place for each answer, and at least one worker
+-- the table is that of the plan, whose pairs are ordered, with room for every word; there is a place for each answer,
+-- and at least one worker
 pub record AreKept (claims : Inside) : Type 0 where
+  pub ordered : IsOrdered claims.setup.plan
   pub key : claims.table.shared.key ≡ claims.setup
   pub words : claims.table.shared.table_id.words ≡ word_count claims.setup.plan
+  pub slots : claims.table.shared.table_id.slots ≡ 0
   pub room : word_count claims.setup.plan < 2 ^ 64
   pub answer : vec_len claims.answer ≡ length claims.setup.plan
   pub some : 1 ≤ claims.setup.workers

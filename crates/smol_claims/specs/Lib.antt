@@ -3,5 +3,9 @@ pub mod Layout
 pub mod Code
 pub mod Spelled
 pub mod Rule
+pub mod Plays
+pub mod Fresh
 pub mod Task
+pub mod Hand
+pub mod KeptWorker
 pub mod KeptClaims

@@ -6,11 +6,20 @@
 #![tactic(auto)]
 
 mod claims;
+mod code;
+mod fresh;
+mod open;
+mod plays;
 mod rule;
+mod settle;
 mod setup;
+mod steps;
 mod view;
+mod work;
+mod worker;
 
 pub use claims::Claims;
 pub use rule::Claiming;
 pub use setup::Setup;
 pub use view::{Link, Look, View};
+pub use worker::Worker;

@@ -133,7 +133,7 @@ names_kept before more few h =
     }
 
 pub moves_kept : (before : List Said) (chosen : Chosen) (motion : Motion) → IsSoFar before → IsSoFar (moves chosen motion ∷ before)
-moves_kept before chosen motion  h = record {
+moves_kept before chosen motion h = record {
   dims = h.dims;
   species = h.species;
   start = h.start;
@@ -218,7 +218,7 @@ limits_kept before count least most h = record {
 }
 
 pub seeds_kept : (before : List Said) (seed : ℕ) → IsSoFar before → IsSoFar (seeds seed ∷ before)
-seeds_kept before seed  h = record {
+seeds_kept before seed h = record {
   dims = h.dims;
   species = h.species;
   start = h.start;

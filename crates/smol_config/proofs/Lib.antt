@@ -5,3 +5,4 @@ pub mod Drafts
 pub mod Kept
 pub mod Rules
 pub mod WholeSound
+pub mod Reading

@@ -265,13 +265,15 @@ coordinates_are before line dims at has walled h is =
     let walls = three (is_walled dims 0 (bounds_of 0 before)) (is_walled dims 1 (bounds_of 1 before)) (is_walled dims 2 (bounds_of 2 before)) walled in
     let range = rw has at h.dims in
     let same : x.0 ∷ y.0 ∷ z.0 ∷ [] ≡ at = cc in
-    subst (λ (at : List Given). (length at ≡ 3) × AreGiven (walls_in before) at) same
-    (refl, are_given dims (bounds_of 0 before) (bounds_of 1 before) (bounds_of 2 before) x.0 y.0 z.0 range.0 walls.0 walls.1 walls.2
-    (let Q : Option ℕ → Type 0 = λ dims. IfSome (bounds_of 1 before) (IsBounded dims 1) in subst Q has h.y)
-    (let Q : Option ℕ → Type 0 = λ dims. IfSome (bounds_of 2 before) (IsBounded dims 2) in subst Q has h.z)
-    (coordinate_is 0 (dims_of before) (bounds_of 0 before) line x.0 h.x x.1)
-    (coordinate_is 1 (dims_of before) (bounds_of 1 before) line y.0 h.y y.1)
-    (coordinate_is 2 (dims_of before) (bounds_of 2 before) line z.0 h.z z.1))
+    subst (λ (at : List Given). (length at ≡ 3) × AreGiven (walls_in before) at) same (
+      refl,
+      are_given dims (bounds_of 0 before) (bounds_of 1 before) (bounds_of 2 before) x.0 y.0 z.0 range.0 walls.0 walls.1 walls.2
+          (let Q : Option ℕ → Type 0 = λ dims. IfSome (bounds_of 1 before) (IsBounded dims 1) in subst Q has h.y)
+          (let Q : Option ℕ → Type 0 = λ dims. IfSome (bounds_of 2 before) (IsBounded dims 2) in subst Q has h.z)
+          (coordinate_is 0 (dims_of before) (bounds_of 0 before) line x.0 h.x x.1)
+          (coordinate_is 1 (dims_of before) (bounds_of 1 before) line y.0 h.y y.1)
+          (coordinate_is 2 (dims_of before) (bounds_of 2 before) line z.0 h.z z.1),
+    )
 
 mol_keeps : (before : List Said) (line : Stated) (one : Placing) → mol_in before line ≡ Ok one → IsSoFar before → IsSoFar (places one ∷ before)
 unfolding mol_in

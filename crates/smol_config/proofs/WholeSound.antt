@@ -34,6 +34,7 @@ use Rattle.smol_config.specs.Content.{content_of, species_from, started, walls_o
 use Rattle.smol_config.specs.Whole.{bounded, has_difstep, has_few_steps, has_room, is_idle, needed_in, whole_in}
 use Rattle.smol_config.specs.Reader.{config_from, config_of, line_in, lines_in, read_from}
 use Rattle.smol_config.specs.SoFar.{IsBounded, IsSoFar}
+use Rattle.smol_config.specs.Tables.{AreSmall}
 use Rattle.smol_config.proofs.Rules.{line_keeps}
 
 -- the same value without its line
@@ -62,13 +63,14 @@ needed_is before needed is =
     let made : Needed = record { dims = dims.0; stop = stop.0; step = step.0 } in
     let same : made ≡ needed = cc in
     subst (λ (needed : Needed). (dims_of before ≡ Some needed.dims) × (is_walled needed.dims 0 (bounds_of 0 before) ≡ true) × (is_walled needed.dims 1 (bounds_of 1 before) ≡ true) × (is_walled needed.dims 2 (bounds_of 2 before) ≡ true)
-    × (stop_of before ≡ Some needed.stop) × (step_of before ≡ Some needed.step)) same
-    (is_there (dims_of before) (kind.Missing need.Dim) dims.0 dims.1,
-    holds (is_walled dims.0 0 (bounds_of 0 before)) (kind.Missing (need.Boundaries 0)) a.0,
-    holds (is_walled dims.0 1 (bounds_of 1 before)) (kind.Missing (need.Boundaries 1)) b.0,
-    holds (is_walled dims.0 2 (bounds_of 2 before)) (kind.Missing (need.Boundaries 2)) c.0,
-    is_there (stop_of before) (kind.Missing need.TimeStop) stop.0 stop.1,
-    is_there (step_of before) (kind.Missing need.TimeStep) step.0 step.1)
+    × (stop_of before ≡ Some needed.stop) × (step_of before ≡ Some needed.step)) same (
+      is_there (dims_of before) (kind.Missing need.Dim) dims.0 dims.1,
+      holds (is_walled dims.0 0 (bounds_of 0 before)) (kind.Missing (need.Boundaries 0)) a.0,
+      holds (is_walled dims.0 1 (bounds_of 1 before)) (kind.Missing (need.Boundaries 1)) b.0,
+      holds (is_walled dims.0 2 (bounds_of 2 before)) (kind.Missing (need.Boundaries 2)) c.0,
+      is_there (stop_of before) (kind.Missing need.TimeStop) stop.0 stop.1,
+      is_there (step_of before) (kind.Missing need.TimeStep) step.0 step.1,
+    )
 
 -- nothing in what is accepted is too much
 bounded_is : (draft found : Draft) → bounded draft ≡ Ok found → (draft ≡ found) × (has_few_steps draft ≡ true) × (list_all has_difstep draft.species ≡ true) × (has_room draft ≡ true)
@@ -165,7 +167,7 @@ content_is_sound before needed h is few near room =
     let most = limit_within (max_mol_of before) h.max_mol in
     let Q : ℕ → Option Bounds → Option ℕ → Type 0 = λ axis bounds dims. IfSome bounds (IsBounded dims axis) in
     let walls = are_walls needed.dims (bounds_of 0 before) (bounds_of 1 before) (bounds_of 2 before) axes.0 axes.1 given.1 given.2 given.3
-        (subst (Q 0 (bounds_of 0 before)) given.0 h.x) (subst (Q 1 (bounds_of 1 before)) given.0 h.y) (subst (Q 2 (bounds_of 2 before)) given.0 h.z) in
+    (subst (Q 0 (bounds_of 0 before)) given.0 h.x) (subst (Q 1 (bounds_of 1 before)) given.0 h.y) (subst (Q 2 (bounds_of 2 before)) given.0 h.z) in
     let count = length-species_from needed.step before 0 (species_of before) in
     let around = walls_of (bounds_of 0 before) (bounds_of 1 before) (bounds_of 2 before) in
     let Placed : ℕ → Type 0 = λ species. All (IsPlacing species 0 around) (placings_of before) in
@@ -243,3 +245,24 @@ accepted_is_sound text draft is =
     let lines = valued (lines_in (statements_of text)) config_from draft (by_length (nat_lt 4194304 (length text)) (with_value (lines_in (statements_of text)) config_from) draft (fault_at 0 kind.TooLong) is) in
     let all = valued (read_from [] lines.0) whole_in draft lines.2 in
     whole_is_sound all.0 draft (lines_keep [] lines.0 all.0 all.1 nothing_yet) all.2
+
+-- how the tests of the whole file end
+pub whole_ok : (before : List Said) (needed : Needed) (draft : Draft) → needed_in before ≡ Ok needed → bounded (content_of needed before) ≡ Ok draft → whole_in before ≡ Ok draft
+unfolding whole_in
+whole_ok before needed draft is passes = rw (is, passes) refl
+
+pub whole_missing : (before : List Said) (why : Kind) → needed_in before ≡ Err why → whole_in before ≡ Err (fault_at 0 why)
+unfolding whole_in
+whole_missing before why is = rw is refl
+
+pub whole_excess : (before : List Said) (needed : Needed) (why : Kind) → needed_in before ≡ Ok needed → bounded (content_of needed before) ≡ Err why → whole_in before ≡ Err (fault_at 0 why)
+unfolding whole_in
+whole_excess before needed why is fails = rw (is, fails) refl
+
+-- walls that hold so far are of lengths that there are
+pub small_walls : (dims : Option ℕ) (axis : ℕ) (given bounds : Option Bounds) → given ≡ bounds → IfSome bounds (IsBounded dims axis) → IfSome given AreSmall
+small_walls dims axis given bounds same h = subst (λ (b : Option Bounds). IfSome b AreSmall) (sym same) (by bounds h)
+  where
+    by : (bounds : Option Bounds) → IfSome bounds (IsBounded dims axis) → IfSome bounds AreSmall
+    by None h = tt
+    by (Some bounds) h = record { low = h.low_size; high = h.high_size }

@@ -58,8 +58,9 @@ fn read_lines(alloc: Global, text: &Text) -> Result<Config, ConfigFault>
     let mut tables = Tables::new(alloc);
     for k in 0..text.len() {
         let line = text.line(k);
-        if let Err(refusal) = tables.read(alloc, &line) {
-            return Err(told_at(line.number(), refusal));
+        match tables.read(alloc, &line) {
+            Ok(()) => {}
+            Err(refusal) => return Err(told_at(line.number(), refusal)),
         }
     }
     match finish(alloc, tables) {

@@ -1,5 +1,5 @@
 //! Outlets in memory.
-ghost use Rattle.std.specs.Prelude.{◌≡◌, ◌+◌, ◌^◌, ◌<◌, ◌≤◌, ◌∷◌, ◌++◌, [], ℕ, length, take, map, min, Some, IfOk, OnOk, OnErr, IsErr, vec_len, slice_index_or, slice_set, string_bytes};
+ghost use Rattle.std.specs.Prelude.{◌≡◌, ◌⊎◌, ◌+◌, ◌^◌, ◌<◌, ◌≤◌, ◌∷◌, ◌++◌, [], ℕ, length, take, map, min, Some, IfOk, OnOk, OnErr, IsErr, vec_len, slice_index_or, slice_set, string_bytes};
 ghost use Rattle.smol_edge.specs.Faults.{Rose, RoseByOne};
 ghost use Rattle.smol_edge.specs.Outlets.{Names, Appends};
 ghost use Rattle.smol_edge.specs.Calls.{IsNumbered};
@@ -47,6 +47,7 @@ fn append_to(outlets: &mut Vec<Vec<u8>>, outlet: usize, bytes: &[u8]) -> Result<
         slice_set (map (λ o. o.items) outlets.old.items) outlet
         (slice_index_or (map (λ o. o.items) outlets.old.items) outlet [] ++ bytes.now)) }
     ensures not_appended { OnErr result (map (λ o. o.items) outlets.new.items ≡ map (λ o. o.items) outlets.old.items) }
+    ensures takes_room { OnErr result (0 < length bytes.now) }
     ensures len { vec_len outlets.new ≡ vec_len outlets.old }
 {
     let written = &mut outlets[outlet];
@@ -114,7 +115,7 @@ impl Outlets for MemOutlets {
         ensures faults_stay { self.old.faults ≤ self.new.faults }
         ensures cause { OnErr result (Rose self.old.faults self.new.faults) }
 
-        // It fails at its numbers, and nowhere else but for want of memory.
+        // It fails at its numbers. For want of memory it may fail elsewhere too, of which nothing can be seen.
         ensures numbered { IsNumbered self.old.fails self.old.calls → IsErr result }
 
         ensures counts { Counts self.old self.new }
@@ -142,8 +143,9 @@ impl Outlets for MemOutlets {
         ensures faults_stay { self.old.faults ≤ self.new.faults }
         ensures cause { OnErr result (Rose self.old.faults self.new.faults) }
 
-        // It fails at its numbers, and nowhere else but for want of memory.
+        // It fails at its numbers, and elsewhere at most for want of memory, which bytes alone take.
         ensures numbered { IsNumbered self.old.fails self.old.calls → IsErr result }
+        ensures fails_only { OnErr result (IsNumbered self.old.fails self.old.calls ⊎ (0 < length bytes.now)) }
         ensures as_many_as_allowed { IfOk result (λ n. n ≡ min (length bytes.now) self.old.most) }
 
         ensures counts { Counts self.old self.new }

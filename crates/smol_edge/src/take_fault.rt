@@ -1,7 +1,5 @@
 use crate::Failed;
 use std::alloc::AllocError;
-use std::error::Error;
-use std::fmt;
 
 /// Why the bytes of a source were not taken.
 #[derive(Clone, Copy, Debug, PartialEq, Eq)]
@@ -13,18 +11,6 @@ pub enum TakeFault {
     /// There was no memory for the bytes.
     OutOfMemory,
 }
-
-impl fmt::Display for TakeFault {
-    fn fmt<W: fmt::Write>(&self, f: &mut fmt::Formatter<W>) -> fmt::Result {
-        match self {
-            TakeFault::ReadFault => write!(f, "a read failed"),
-            TakeFault::TooLong => write!(f, "there are too many bytes"),
-            TakeFault::OutOfMemory => write!(f, "out of memory"),
-        }
-    }
-}
-
-impl Error for TakeFault {}
 
 impl From<Failed> for TakeFault {
     ghost use Rattle.std.specs.Prelude.{◌≡◌};

@@ -77,6 +77,15 @@ fn a_front_stays_where_a_write_fails(rt: HostRuntime) -> Result<(), Fail> {
 }
 
 #[test]
+fn no_bytes_need_no_room_in_memory(rt: HostRuntime) -> Result<(), Fail> {
+    let mut outlets = MemOutlets::of(rt.alloc(), &[], 1)?;
+    assert_eq!(rt; outlets.write(0, b"")?, 0);
+    put_all(&mut outlets, 1, b"")?;
+    assert_eq!(rt; outlets.bytes(0), b"".as_slice());
+    Ok(())
+}
+
+#[test]
 fn real_files_are_read(rt: HostRuntime) -> Result<(), Fail> {
     fs::write(&rt, "here", "some text")?;
     let mut source = FileSource::of(&rt);
@@ -99,5 +108,60 @@ fn real_files_are_written(rt: HostRuntime) -> Result<(), Fail> {
     let text = fs::read_to_string(&rt, "there")?;
     assert_eq!(rt; text.as_str(), "one two");
     assert!(rt; outlets.open("no-such-folder/file").is_err());
+    Ok(())
+}
+
+#[test]
+fn each_opening_reads_its_own_file(rt: HostRuntime) -> Result<(), Fail> {
+    fs::write(&rt, "first", "one")?;
+    fs::write(&rt, "second", "two, and more")?;
+    let mut source = FileSource::of(&rt);
+    for (name, text) in [
+        ("first", "one"),
+        ("second", "two, and more"),
+        ("first", "one"),
+    ] {
+        source.open(name)?;
+        let mut buffer = [0u8; 1];
+        assert_eq!(rt; source.read(&mut buffer)?, 1);
+        assert_eq!(rt; Some(buffer[0]), text.bytes().next());
+        source.open(name)?;
+        let all = take_all(rt.alloc(), &mut source, 100)?;
+        assert_eq!(rt; all.as_slice(), text.as_bytes());
+    }
+    Ok(())
+}
+
+#[test]
+fn a_folder_that_is_read_fails(rt: HostRuntime) -> Result<(), Fail> {
+    let mut source = FileSource::of(&rt);
+    source.open(".")?;
+    assert!(rt;
+        matches!(
+            take_all(rt.alloc(), &mut source, 100),
+            Err(TakeFault::ReadFault)
+        )
+    );
+    Ok(())
+}
+
+#[test]
+fn each_opening_writes_its_own_file(rt: HostRuntime) -> Result<(), Fail> {
+    let mut outlets = RealOutlets::of(&rt, rt.alloc())?;
+    assert_eq!(rt; outlets.open("first")?, 2);
+    assert_eq!(rt; outlets.open("second")?, 3);
+    put_all(&mut outlets, 3, b"two")?;
+    put_all(&mut outlets, 2, b"one")?;
+    assert_eq!(rt; outlets.write(2, b"")?, 0);
+    assert_eq!(rt; fs::read_to_string(&rt, "first")?.as_str(), "one");
+    assert_eq!(rt; fs::read_to_string(&rt, "second")?.as_str(), "two");
+    Ok(())
+}
+
+#[test]
+fn a_full_device_that_is_written_fails(rt: HostRuntime) -> Result<(), Fail> {
+    let mut outlets = RealOutlets::of(&rt, rt.alloc())?;
+    let full = outlets.open("/dev/full")?;
+    assert!(rt; put_all(&mut outlets, full, b"1").is_err());
     Ok(())
 }

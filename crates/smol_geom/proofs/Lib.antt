@@ -5,6 +5,7 @@ pub mod Folds
 pub mod Fractions
 pub mod Integers
 pub mod Lines
+pub mod Lists
 pub mod Order
 pub mod Sizes
 pub mod Sorted

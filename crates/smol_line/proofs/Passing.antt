@@ -1,5 +1,5 @@
 -- What is known of a line whose rule gives a value: each of its tests was passed, and each of its words had a value.
-use Rattle.std.proofs.Common.{◌≡◌, Bool, true, false, List, [], ◌∷◌, Option, None, Some, Result, Ok, Err, refl}
+use Rattle.std.proofs.Common.{◌≡◌, Bool, true, false, List, ◌∷◌, Option, None, Some, Result, Ok, Err, refl}
 use Rattle.smol_types.specs.declared.fault.Kind.{Kind}
 use Rattle.smol_line.specs.Checks.{unless, once, passing, there, with_value}
 

@@ -1,8 +1,7 @@
 -- Words with a value: what the value's range is.
-use Rattle.std.proofs.Common.{◌≡◌, ◌≤◌, ◌<◌, ◌≤ℤ◌, ◌&&◌, Bool, true, false, ℕ, zero, suc, ℤ, pos, negsuc, nat_le, nat_lt, int_le, List, [], ◌∷◌, length, Option, None, Some, Result, Ok, Err, IfSome, unsigned_abs, arith, refl, sym, ap, ◌∙◌, if◌then◌else◌, position}
+use Rattle.std.proofs.Common.{◌≡◌, ◌≤◌, ◌<◌, ◌≤ℤ◌, ◌&&◌, Bool, true, false, ℕ, ℤ, nat_le, nat_lt, int_le, List, [], length, Option, None, Some, Result, Ok, Err, arith, refl, if◌then◌else◌, position}
 use Rattle.std.specs.Str.{bytes_eq}
 use Rattle.std.proofs.lemmas.Bool.Decides.{nat_tests}
-use Rattle.std.proofs.lemmas.Int.{ints}
 use Rattle.std.proofs.lemmas.List.Quantifiers.{position-Some}
 use Rattle.smol_num.specs.declared.num_fault.NumFault.{NumFault}
 use Rattle.smol_num.specs.declared.num_fault.NumFault.TheVariants.{NotNumber, TooLarge}
@@ -10,7 +9,7 @@ use Rattle.smol_num.specs.Digits.{is_count, digits_value, count_of}
 use Rattle.smol_num.specs.Decimal.{decimal_of}
 use Rattle.smol_types.specs.declared.fault.Kind.{Kind}
 use Rattle.smol_line.specs.Axis.{axis_below, axis_in, axis_named}
-use Rattle.smol_line.specs.Numbers.{count_between, count_in, decimal_between, decimal_in, unsigned, unsigned_in}
+use Rattle.smol_line.specs.Numbers.{count_between, count_in, decimal_between, decimal_in}
 use Rattle.smol_line.specs.SpeciesWord.{number_found, number_in, number_among, species_name, species_word_in}
 
 both : (a b : Bool) → (a && b) ≡ true → (a ≡ true) × (b ≡ true)

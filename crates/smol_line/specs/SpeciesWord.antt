@@ -1,5 +1,5 @@
 -- A word that names a species that there is: its name, with or without a bracket for molecules in solution.
-use Rattle.std.specs.Prelude.{ℕ, ◌+◌, ◌&&◌, ◌||◌, ◌==◌, Bool, false, nat_le, nat_lt, List, length, drop, take, Option, None, Some, Result, Ok, Err, if◌then◌else◌, codes, position}
+use Rattle.std.specs.Prelude.{ℕ, ◌+◌, ◌&&◌, ◌||◌, ◌==◌, Bool, nat_le, nat_lt, List, length, drop, take, Option, None, Some, Result, Ok, Err, if◌then◌else◌, codes, position}
 use Rattle.std.specs.Str.{bytes_eq}
 use Rattle.smol_types.specs.declared.fault.Kind.{Kind}
 use Rattle.smol_types.specs.declared.fault.Kind.TheVariants.{UnknownName, NotInProfile}

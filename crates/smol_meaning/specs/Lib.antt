@@ -6,6 +6,7 @@ pub mod Seen
 pub mod Moves
 pub mod Chance
 pub mod Sight
+pub mod Sighted
 pub mod Inside
 pub mod Placement
 pub mod Motion
@@ -17,3 +18,6 @@ pub mod Timing
 pub mod Stretch
 pub mod Commands
 pub mod Run
+pub mod Births
+pub mod Placed
+pub mod Folds

@@ -49,7 +49,7 @@ abbrev pub anywhere : List Given
 anywhere = Any ∷ Any ∷ Any ∷ []
 
 -- the first place inside a compartment of so many tries from this one on
-abbrev pub first_inside : Draft → ℕ → ℕ → ℕ → ℕ → ℕ → Option Place
+unfoldable pub first_inside : Draft → ℕ → ℕ → ℕ → ℕ → ℕ → Option Place
 first_inside draft seed serial compartment try zero = None
 first_inside draft seed serial compartment try (suc left) =
     if is_inside draft compartment (place_at_try draft seed serial try anywhere)

@@ -7,6 +7,7 @@ pub mod StateLemmas
 pub mod GoodLemmas
 pub mod GoodKept
 pub mod ProgressLemmas
+pub mod NextLemmas
 mod StepLemmas
 mod EntryLemmas
 mod LinkedLemmas

@@ -3,26 +3,14 @@ use Rattle.std.proofs.Common.{◌≡◌, ℕ, ◌+◌, ◌-◌, ◌<◌, ◌≤�
 use Rattle.std.proofs.lemmas.Bool.{cases_order, cases_lt, false_from_ne_true}
 use Rattle.smol_plan.specs.declared.pair.Pair.{Pair}
 use Rattle.smol_plan.specs.declared.pair.Side.{Side}
-use Rattle.smol_plan.specs.declared.pair.Side.TheVariants.{Low, High}
 use Rattle.smol_plan.specs.declared.plan.Entry.{Entry}
 use Rattle.smol_plan.specs.declared.plan.Links.{Links}
-use Rattle.smol_plan.specs.Pair.{pair_at, molecule_at, no_pair, IsOrdered}
+use Rattle.smol_plan.specs.Pair.{molecule_at, IsOrdered}
 use Rattle.smol_plan.specs.Links.{has_at}
 use Rattle.smol_plan.specs.Linked.{entry_at, IsOf, IsJoint, SoFar, LinkedUpTo, IsEarlier, IsLater, IsLinked, IsNoLater}
 use Rattle.smol_plan.proofs.GoodLemmas.{on_a_side}
 use Rattle.smol_plan.proofs.EntryLemmas.{AreEntries, rising_far}
-use Rattle.smol_plan.proofs.SideLemmas.{has_on_side}
-
--- the two molecules of a pair differ
-pub ordered_at : (pairs : List Pair) → IsOrdered pairs → (j : ℕ) → j < length pairs → (pair_at pairs j).a < (pair_at pairs j).b
-ordered_at pairs h j l = h j no_pair l
-
--- a pair has a molecule on one side alone
-pub one_side : (pairs : List Pair) → IsOrdered pairs → (j : ℕ) (s t : Side) → j < length pairs → molecule_at pairs j s ≡ molecule_at pairs j t → s ≡ t
-one_side pairs h j Low Low l e = refl
-one_side pairs h j Low High l e = absurd (omega (arith, ordered_at pairs h j l))
-one_side pairs h j High Low l e = absurd (omega (arith, ordered_at pairs h j l))
-one_side pairs h j High High l e = refl
+use Rattle.smol_plan.proofs.SideLemmas.{has_on_side, one_side}
 
 module _ (pairs : List Pair) (entries : List Entry) (ordered : IsOrdered pairs) (h : AreEntries pairs entries) where
   -- the molecule of an entry of the pair j on a side

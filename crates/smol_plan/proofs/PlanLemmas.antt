@@ -9,8 +9,7 @@ use Rattle.smol_plan.specs.Links.{has_at, source_of, IsNextAfter}
 use Rattle.smol_plan.specs.declared.plan.Links.{Links}
 use Rattle.smol_plan.specs.Linked.{unlinked, earlier_of, later_of, IsEarlier, IsLater, IsLinked}
 use Rattle.smol_plan.proofs.LinkLemmas.{SourceIs, no_source, a_source, source_cases, source_is, source_tells, link_inside}
-use Rattle.smol_plan.proofs.NeighborLemmas.{one_side}
-use Rattle.smol_plan.proofs.SideLemmas.{has_on_side}
+use Rattle.smol_plan.proofs.SideLemmas.{has_on_side, one_side}
 
 -- where no earlier pair has the molecule there is no source
 source_none : (pairs : List Pair) (j : ℕ) (side : Side) → j < length pairs → ((k : ℕ) → k < j → has_at pairs (molecule_at pairs j side) k ≡ false) → source_of pairs j side ≡ None

@@ -10,11 +10,11 @@ use Rattle.smol_plan.specs.declared.decision.Decision.{Decision}
 use Rattle.smol_plan.specs.declared.standing.Standing.{Standing}
 use Rattle.smol_plan.specs.Pair.{is_side, molecule_at}
 use Rattle.smol_plan.specs.Matching.{fires}
-use Rattle.smol_plan.specs.Links.{is_number, comes_from}
+use Rattle.smol_plan.specs.Links.{comes_by, is_number, comes_from}
 use Rattle.smol_plan.specs.Machine.{slice_of, has_no_link, left_of, is_decided, is_beaten, after_take, after_decide, with_told, after_tell}
 use Rattle.smol_plan.specs.Good.{Good, HasDecidedSource}
 use Rattle.smol_plan.specs.Standing.{fresh, told_of, ower_of, set_told, set_ower, fired_of}
-use Rattle.smol_plan.specs.Board.{standing_at, state_from, after_slice, comes_by, after_owing, untold_count, after_telling, SourceTells, SourcesTell}
+use Rattle.smol_plan.specs.Board.{standing_at, state_from, after_slice, after_owing, untold_count, after_telling, SourceTells, SourcesTell}
 use Rattle.smol_plan.specs.Decision.{TellsTaken}
 use Rattle.smol_plan.proofs.SideLemmas.{is_side-true, is_side-refl}
 use Rattle.smol_plan.proofs.LinkLemmas.{source_tells, link_inside}

@@ -5,8 +5,8 @@ use Rattle.smol_plan.specs.declared.pair.Side.{Side}
 use Rattle.smol_plan.specs.declared.pair.Side.TheVariants.{Low, High}
 use Rattle.smol_plan.specs.declared.decision.Decision.{Decision}
 use Rattle.smol_plan.specs.declared.standing.Standing.{Standing}
-use Rattle.smol_plan.specs.Pair.{molecule_at, IsOrdered}
-use Rattle.smol_plan.specs.Links.{source_of, is_link, is_number, comes_from}
+use Rattle.smol_plan.specs.Pair.{IsOrdered}
+use Rattle.smol_plan.specs.Links.{source_of, is_link, is_number, comes_by}
 use Rattle.smol_plan.specs.Machine.{State, slice_of, slice_count, has_no_link}
 use Rattle.smol_plan.specs.Good.{Good}
 use Rattle.smol_plan.specs.Law.{OfWorkers}
@@ -52,11 +52,6 @@ pub record IsWellKept (board : Board) : Type 0 where
 abbrev pub after_slice : List Pair → ℕ → ℕ → ℕ → Standing → Standing
 after_slice pairs worker slice j s =
     if (slice_of j == slice) && has_no_link pairs j then record s { holder = Some worker } else s
-
--- whether the link of k on a side comes from the pair j, by the molecule that j has on this side
-abbrev pub comes_by : List Pair → ℕ → Side → ℕ → Side → Bool
-comes_by pairs j side k t =
-    comes_from pairs j k t && (molecule_at pairs k t == molecule_at pairs j side)
 
 -- the standing of the pair k after the worker owes the link that comes from the pair j by this molecule
 abbrev pub after_owing : List Pair → ℕ → Side → ℕ → ℕ → Standing → Standing

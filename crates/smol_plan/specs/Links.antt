@@ -51,6 +51,11 @@ is_number j (Some i) = i == j
 abbrev pub comes_from : List Pair → ℕ → ℕ → Side → Bool
 comes_from pairs j k side = is_number j (source_of pairs k side)
 
+-- whether the link of k on a side comes from the pair j, by the molecule that j has on this side
+abbrev pub comes_by : List Pair → ℕ → Side → ℕ → Side → Bool
+comes_by pairs j side k t =
+    comes_from pairs j k t && (molecule_at pairs k t == molecule_at pairs j side)
+
 -- whether a pair before the place n that has the molecule m fires
 abbrev pub is_taken_before : List Pair → ℕ → ℕ → Bool
 is_taken_before pairs m n = any_below (λ i. fires pairs i && has_at pairs m i) n

@@ -3,7 +3,7 @@ ghost use Rattle.std.specs.Prelude.{◌≡◌, ℕ, ◌+◌, ◌<◌, ◌≤◌,
 ghost use Rattle.smol_plan.specs.Pair.{molecule_at};
 ghost use Rattle.smol_plan.specs.Matching.{fires};
 ghost use Rattle.smol_plan.specs.Links.{is_link, is_number, is_taken_before};
-ghost use Rattle.smol_plan.specs.Machine.{first_state, slice_count, has_no_link, left_of, effect, after_take, after_decide, after_tell, IsEnabled};
+ghost use Rattle.smol_plan.specs.Machine.{first_state, slice_count, left_of, effect, after_take, after_decide, after_tell, IsEnabled};
 ghost use Rattle.smol_plan.specs.Good.{Good};
 ghost use Rattle.smol_plan.specs.Decision.{TellsTaken};
 ghost use Rattle.smol_plan.specs.Law.{OfWorkers};
@@ -48,14 +48,6 @@ fn is_worker(one: Option<u32>, worker: u32) -> bool
     }
 }
 
-// Whether a pair waits for no other.
-fn is_unlinked(plan: &Plan, pair: usize) -> bool
-    requires { pair < length plan.now }
-    ensures { result ≡ has_no_link plan.now pair }
-{
-    plan.before(pair, Side::Low).is_none() && plan.before(pair, Side::High).is_none()
-}
-
 // How many links of a pair are not told.
 fn untold(plan: &Plan, standing: &Standing, pair: usize) -> u8
     requires { pair < length plan.now }
@@ -75,7 +67,7 @@ fn hold_slice(plan: &Plan, standings: &mut [Standing], slice: usize, worker: u32
 {
     let range = plan.slice(slice);
     for pair in range.start..range.end {
-        if is_unlinked(plan, pair) {
+        if plan.is_unlinked(pair) {
             standings[pair].holder = Some(worker);
         }
     }

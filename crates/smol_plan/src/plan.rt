@@ -4,7 +4,7 @@ ghost use Rattle.smol_plan.specs.declared.pair.Side.{Side};
 ghost use Rattle.smol_plan.specs.Pair.{IsOrdered, molecule_at};
 ghost use Rattle.smol_plan.specs.Links.{has_at, source_of, IsLastBefore, IsNextAfter};
 ghost use Rattle.smol_plan.specs.Linked.{unlinked, links_at, earlier_of, later_of, with_earlier, with_later, joined, entries_from, entry_at, AreUnlinked, AreInside, LinkedUpTo, IsRising};
-ghost use Rattle.smol_plan.specs.Machine.{slice_of, slice_count};
+ghost use Rattle.smol_plan.specs.Machine.{slice_of, slice_count, has_no_link};
 
 use crate::pair::{Pair, Side};
 use rayon::prelude::*;
@@ -127,8 +127,16 @@ impl Plan {
         }
     }
 
-    // The molecule of a pair on a side.
-    pub(crate) fn molecule(&self, pair: usize, side: Side) -> u64
+    /// Whether a pair waits for no other.
+    pub fn is_unlinked(&self, pair: usize) -> bool
+        requires { pair < length self.now }
+        ensures { result ≡ has_no_link self.now pair }
+    {
+        self.before(pair, Side::Low).is_none() && self.before(pair, Side::High).is_none()
+    }
+
+    /// The molecule of a pair on a side.
+    pub fn molecule(&self, pair: usize, side: Side) -> u64
         requires { pair < length self.now }
         ensures { result ≡ molecule_at self.now pair side }
     {

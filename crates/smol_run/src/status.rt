@@ -1,4 +1,6 @@
-/// How a run ends. The program's exit status is the variant's number.
+ghost use Rattle.std.specs.Prelude.{◌≡◌};
+
+/// How a run ends.
 #[derive(Clone, Copy, Debug, PartialEq, Eq)]
 pub enum Status {
     /// The run ended.
@@ -13,4 +15,15 @@ pub enum Status {
     Output,
     /// Memory ran out.
     Memory,
+}
+
+impl Status {
+    ghost use Rattle.smol_run.specs.Status.{code_of};
+
+    /// The program's exit status.
+    pub fn code(self) -> u8
+        ensures { result ≡ code_of self }
+    {
+        self as u8
+    }
 }

@@ -1,10 +1,10 @@
 //! The words of the command line.
-ghost use Rattle.std.specs.Prelude.{◌≡◌, ◌<◌, ℕ, IfOk, length, map, string_bytes};
+ghost use Rattle.std.specs.Prelude.{◌≡◌, ◌+◌, ◌<◌, None, IfOk, MatchResult, drop, length, map, string_bytes};
 ghost use Rattle.std.specs.Result.{result_ok};
-ghost use Rattle.smol_run.specs.Words.{file_job, is_file_name, is_seed_word, job_of, job_of_three, NamesWord, seed_in};
+ghost use Rattle.std.specs.Option.{option_map};
+ghost use Rattle.smol_run.specs.Words.{Adds, is_file_name, IsSecond, item_of_two, items_of, job_of, NamesWord, seed_in, StandsAt, word_count};
 
 use smol_num::read_digits;
-use std::fmt;
 
 /// What the words ask for.
 #[derive(Clone, Copy, Debug, PartialEq, Eq)]
@@ -17,51 +17,88 @@ pub enum Job {
 #[derive(Clone, Copy, Debug, PartialEq, Eq)]
 pub struct WordFault;
 
-impl fmt::Display for WordFault {
-    fn fmt<W: fmt::Write>(&self, f: &mut fmt::Formatter<W>) -> fmt::Result {
-        write!(f, "the words are not understood")
-    }
+/// What a word gives, or two words that belong together.
+#[derive(Clone, Copy, Debug, PartialEq, Eq)]
+enum Item {
+    /// The file whose name is the word at this index.
+    Name(usize),
+    /// The number behind `--seed`.
+    Seed(u64),
 }
 
-impl std::error::Error for WordFault {}
+/// What the words have given so far.
+#[derive(Clone, Copy, Debug, PartialEq, Eq)]
+struct Found {
+    name: Option<usize>,
+    seed: Option<u64>,
+}
+
+impl Found {
+    /// Adds an item. A second of its kind is refused.
+    fn add(&mut self, item: Item) -> Result<(), WordFault>
+        ensures { MatchResult result (λ _. Adds item self.old self.new) (λ _. IsSecond item self.old) }
+    {
+        let was_given = match item {
+            Item::Name(index) => self.name.replace(index).is_some(),
+            Item::Seed(seed) => self.seed.replace(seed).is_some(),
+        };
+        if was_given { Err(WordFault) } else { Ok(()) }
+    }
+
+    /// What was given asks for.
+    fn job(self) -> Result<Job, WordFault>
+        ensures { result_ok result ≡ option_map (λ index. Job.File index self.seed) self.name }
+    {
+        let index = self.name.ok_or(WordFault)?;
+        Ok(Job::File {
+            index,
+            seed: self.seed,
+        })
+    }
+}
 
 /// Reads the words after the program's name.
 pub fn read_words(words: &[String]) -> Result<Job, WordFault>
     ensures job { result_ok result ≡ job_of (map (λ word. string_bytes word) words.now) }
     ensures named { IfOk result (NamesWord (length words.now)) }
 {
-    match words {
-        [name] => file_job(name.as_bytes(), 0, None),
-        [first, second, third] => {
-            job_of_three(first.as_bytes(), second.as_bytes(), third.as_bytes())
-        }
-        _ => Err(WordFault),
+    let mut found = Found {
+        name: None,
+        seed: None,
+    };
+    let mut index = 0;
+    while index < words.len() {
+        let item = item_at(words, index)?;
+        found.add(item)?;
+        index += word_count(item);
+    }
+    found.job()
+}
+
+// The item that begins at the word at this index.
+fn item_at(words: &[String], index: usize) -> Result<Item, WordFault>
+    requires { index < length words.now }
+    ensures { MatchResult result
+        (λ item. StandsAt item index (map (λ word. string_bytes word) words.now))
+        (λ _. items_of index (drop index (map (λ word. string_bytes word) words.now)) ≡ None) }
+{
+    let word = words[index].as_bytes();
+    if is_file_name(word) {
+        return Ok(Item::Name(index));
+    }
+    match words.get(index + 1) {
+        Some(number) => item_of_two(word, number.as_bytes()),
+        None => Err(WordFault),
     }
 }
 
-// Three words: a seed before or behind a file name.
-fn job_of_three(first: &[u8], second: &[u8], third: &[u8]) -> Result<Job, WordFault>
-    ensures job { result_ok result ≡ job_of_three first.now second.now third.now }
-    ensures named { IfOk result (NamesWord 3) }
+// How many words spell the item.
+fn word_count(item: Item) -> usize
+    ensures { result ≡ word_count item }
 {
-    if is_seed_word(first) {
-        file_job(third, 2, Some(seed_in(second)?))
-    } else if is_seed_word(second) {
-        file_job(first, 0, Some(seed_in(third)?))
-    } else {
-        Err(WordFault)
-    }
-}
-
-// A run of the file that this word names.
-fn file_job(name: &[u8], index: usize, seed: Option<u64>) -> Result<Job, WordFault>
-    ensures job { result_ok result ≡ file_job name.now index seed }
-    ensures named { (count : ℕ) → index < count → IfOk result (NamesWord count) }
-{
-    if is_file_name(name) {
-        Ok(Job::File { index, seed })
-    } else {
-        Err(WordFault)
+    match item {
+        Item::Name(_) => 1,
+        Item::Seed(_) => 2,
     }
 }
 
@@ -71,11 +108,15 @@ fn is_file_name(word: &[u8]) -> bool
     !word.is_empty() && !word.starts_with(b"--")
 }
 
-// Whether a seed stands behind this word.
-fn is_seed_word(word: &[u8]) -> bool
-    ensures { result ≡ is_seed_word word.now }
+// A word that says what the number behind it is.
+fn item_of_two(word: &[u8], number: &[u8]) -> Result<Item, WordFault>
+    ensures { result_ok result ≡ item_of_two word.now number.now }
 {
-    word == b"--seed".as_slice()
+    if word == b"--seed".as_slice() {
+        Ok(Item::Seed(seed_in(number)?))
+    } else {
+        Err(WordFault)
+    }
 }
 
 fn seed_in(word: &[u8]) -> Result<u64, WordFault>

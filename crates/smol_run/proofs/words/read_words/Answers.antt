@@ -1,17 +1,24 @@
-use Rattle.std.proofs.Common.{◌≡◌, ◌≤◌, ◌<◌, ℕ, List, [], ◌∷◌, length, map, None, arith, refl, string_bytes}
+use Rattle.std.proofs.Common.{◌≡◌, ◌∙◌, ap, length, map, None, string_bytes, arith, rules}
 use Rattle.std.proofs.lemmas.List.{length-map}
 use Rattle.smol_run.specs.Words.{job_of}
+use Rattle.smol_run.proofs.Items.{job_of_more, job_of_more-Adds, job_of_more-IsSecond, named-Adds}
 use Rattle.smol_run.proofs.words.read_words.Goals as goal
 
--- two words ask for nothing
-two_words : (words : List (List ℕ)) → 2 ≤ length words → length words < 3 → None ≡ job_of words
-two_words [] least most = refl
-two_words (first ∷ []) least most = absurd (omega arith)
-two_words (first ∷ second ∷ []) least most = refl
-two_words (first ∷ second ∷ third ∷ words) least most = absurd (omega arith)
+-- the item is a second of its kind
+pub returns-in_err-add-clause-job : goal.returns-in_err-add-clause-job
+returns-in_err-add-clause-job c =
+    let none : job_of (map string_bytes c.args.words.now) ≡ None =
+    c.loop-index.invariant.same ∙ ap (job_of_more c.loop-index.found) c.in_ok-item.ensures.first ∙ job_of_more-IsSecond c.in_ok-item.item c.loop-index.found _ c.in_err-add.ensures in
+    rw none (search rules)
 
-pub returns-in_default-2-clause-job : goal.returns-in_default-2-clause-job
-returns-in_default-2-clause-job c =
-    let words = map (λ word. string_bytes word) c.args.words.now in
-    let count = length-map c.args.words.now (λ word. string_bytes word) in
-    two_words words (omega (arith, count, c.in_default.len_at_least)) (omega (arith, count, c.in_default.len_below))
+-- the item counts as found, and the words go on behind it
+pub loop-index-preserved : goal.loop-index-preserved
+loop-index-preserved c =
+    let words = map string_bytes c.args.words.now in
+    let count = length-map c.args.words.now string_bytes in
+    rw c.word_count-index.ensures
+    (record {
+      within = omega (arith, c.in_ok-item.ensures.fits, count);
+      named = named-Adds c.in_ok-item.item c.loop-index.found c.add.new.self (length c.args.words.now) c.in_ok-add.ensures (rw count at c.in_ok-item.ensures.within) c.loop-index.invariant.named;
+      same = c.loop-index.invariant.same ∙ ap (job_of_more c.loop-index.found) c.in_ok-item.ensures.first ∙ job_of_more-Adds c.in_ok-item.item c.loop-index.found c.add.new.self _ c.in_ok-add.ensures;
+    })

@@ -1,4 +1,4 @@
-use Rattle.std.proofs.Common.{◌++◌, ◌∷◌, [], map, position, is_some, string_bytes, sym, ap, ◌∙◌}
+use Rattle.std.proofs.Common.{◌++◌, ◌∷◌, [], map, position, is_some, string_bytes, ap, ◌∙◌}
 use Rattle.std.specs.Str.{bytes_eq}
 use Rattle.smol_line.proofs.SetLemmas.{added_name}
 use Rattle.smol_line.proofs.name_set.NameSet.add.Goals as goal

@@ -1,4 +1,4 @@
-use Rattle.std.proofs.Common.{map, position, string_bytes, sym, ap, ◌∙◌}
+use Rattle.std.proofs.Common.{position, string_bytes, sym, ap, ◌∙◌}
 use Rattle.std.specs.Str.{bytes_eq}
 use Rattle.smol_line.proofs.SetLemmas.{position-map, position-no_text}
 use Rattle.smol_line.proofs.name_set.NameSet.number_of.Goals as goal

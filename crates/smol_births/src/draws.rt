@@ -1,0 +1,76 @@
+//! Which reaction a molecule makes alone.
+ghost use Rattle.std.specs.Prelude.{◌≡◌, ◌<◌, ◌≤◌, length, nat_lt, sum_by};
+ghost use Rattle.std.specs.List.{list_any};
+ghost use Rattle.smol_types.specs.declared.reaction.Reaction.{Reaction as TheReaction};
+ghost use Rattle.smol_types.specs.Limits.{certain};
+ghost use Rattle.smol_types.specs.Reactions.{reacts_alone, share_of};
+ghost use Rattle.smol_meaning.specs.Events.{lone_reaction, reaction_drawn};
+
+use smol_streams::Streams;
+use smol_types::{Config, Mol, Reaction};
+
+// How many places a step has in a molecule's stream, and which of them has the word of its reaction.
+const WORDS_A_STEP: u128 = 32;
+
+const REACTION_WORD: u128 = 18;
+
+// Whether the species is the one reactant.
+fn reacts_alone(species: u16, reactants: &[u16]) -> bool
+    ensures { result ≡ reacts_alone species reactants.now }
+{
+    match reactants {
+        [one] => *one == species,
+        _ => false,
+    }
+}
+
+// How many of the random words are a reaction's in which a molecule of the species reacts alone.
+fn share_of(species: u16, reaction: &Reaction) -> u64
+    ensures { result ≡ share_of species reaction.now }
+{
+    if reacts_alone(species, reaction.reactants.as_slice()) {
+        reaction.threshold.0
+    } else {
+        0
+    }
+}
+
+// Whether some word is a reaction's in which a molecule of the species reacts alone.
+fn may_react(species: u16, reactions: &[Reaction]) -> bool
+    ensures { result ≡ list_any (λ (reaction : TheReaction). nat_lt 0 (share_of species reaction)) reactions.now }
+{
+    reactions
+        .iter()
+        .any(|reaction| share_of(species, reaction) > 0)
+}
+
+// The reaction whose words hold this one.
+fn reaction_drawn(species: u16, reactions: &[Reaction], word: u32) -> Option<u16>
+    requires count { length reactions.now ≤ 1024 }
+    requires shares { sum_by (share_of species) reactions.now ≤ certain }
+    ensures { result ≡ reaction_drawn species 0 0 reactions.now word }
+{
+    let mut passed = 0;
+    for (number, reaction) in reactions.iter().enumerate() {
+        passed += share_of(species, reaction);
+        if u64::from(word) < passed {
+            return Some(number as u16);
+        }
+    }
+    None
+}
+
+/// The reaction that a molecule makes alone in step k, if it makes one. Its word lies behind those of
+/// its displacement; it is drawn only where some word is a reaction's.
+pub fn first_order(config: &Config, m: &Mol, streams: &mut Streams, k: u32) -> Option<u16>
+    requires { m.now.species < length config.now.species }
+    ensures reaction { result ≡ lone_reaction config.now streams.old k m.now }
+    ensures seed { streams.new ≡ streams.old }
+{
+    let reactions = config.reactions();
+    if !may_react(m.species, reactions) {
+        return None;
+    }
+    let word = streams.word(m.serial, WORDS_A_STEP * u128::from(k) + REACTION_WORD);
+    reaction_drawn(m.species, reactions, word)
+}

@@ -1,0 +1,14 @@
+pub mod ListLemmas
+pub mod CodeLemmas
+pub mod SeatLemmas
+pub mod StillLemmas
+pub mod TakeLemmas
+pub mod LookLemmas
+pub mod DecideLemmas
+pub mod TellLemmas
+pub mod SplitLemmas
+pub mod OpenLemmas
+pub mod SitLemmas
+pub mod HandLemmas
+pub mod NextLinkLemmas
+pub mod FreeLemmas

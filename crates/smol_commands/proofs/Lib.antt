@@ -1,0 +1,6 @@
+mod Times
+mod Marks
+mod SpeciesCounts
+mod Ranks
+mod Added
+mod Effects

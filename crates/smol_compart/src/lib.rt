@@ -1,0 +1,13 @@
+//! Which places are inside a compartment, and where molecules are placed before a run.
+#![tactic(auto)]
+
+mod compartment;
+mod draw;
+mod opening;
+mod place_fault;
+#[cfg(test)]
+mod tests;
+
+pub use compartment::inside;
+pub use opening::place_all;
+pub use place_fault::PlaceFault;

@@ -1,0 +1,59 @@
+use Rattle.std.proofs.Common.{◌≡◌, List, Ok, Err, sym, ap, ◌∙◌}
+use Rattle.std.proofs.lemmas.Result.{err_from_is_err_and}
+use Rattle.smol_types.specs.declared.draft.Draft.{Draft}
+use Rattle.smol_types.specs.declared.fault.Kind.{Kind}
+use Rattle.smol_config.specs.Said.{Said}
+use Rattle.smol_config.specs.Tables.{Holds}
+use Rattle.smol_config.specs.Whole.{bounded, whole_in}
+use Rattle.smol_config.proofs.WholeSound.{needed_is, small_walls, whole_ok, whole_missing, whole_excess, whole_is_sound}
+use Rattle.smol_config.proofs.whole.finish.Goals as goal
+use Rattle.smol_config.proofs.whole.finish.Goals.{In_ok-draft-2}
+
+pub draft_of-requires : goal.draft_of-requires
+draft_of-requires c =
+    let before = c.requires.0 in
+    let holds = c.requires.1 in
+    let h = c.requires.2 in
+    let needed = c.in_ok-needed.needed in
+    let given = needed_is before needed (sym (c.in_ok-needed.ensures before holds)) in
+    let stop = rw given.4 at h.stop in
+    let step = rw given.5 at h.step in
+    record {
+      start = rw holds.start h.start;
+      stop = stop;
+      step = step.0;
+      step_above = step.1;
+      x = small_walls _ 0 _ _ holds.bounds.x h.x;
+      y = small_walls _ 1 _ _ holds.bounds.y h.y;
+      z = small_walls _ 2 _ _ holds.bounds.z h.z;
+    }
+
+-- the draft is what the whole file says
+whole : (c : In_ok-draft-2) (before : List Said) → Holds c.args.tables before → whole_in before ≡ Ok c.in_ok-draft-2.draft
+whole c before holds =
+    whole_ok before c.in_ok-needed.needed c.in_ok-draft-2.draft (sym (c.in_ok-needed.ensures before holds))
+    (ap bounded (sym (c.in_ok-draft.ensures.content before holds)) ∙ sym c.in_ok-draft-2.ensures)
+
+pub of-requires : goal.of-requires
+of-requires c = whole_is_sound c.requires.0 c.in_ok-draft-2.draft c.requires.2 (whole c c.requires.0 c.requires.1)
+
+pub returns-clause-accepted : goal.returns-clause-accepted
+returns-clause-accepted c before holds = whole (goal.at.returns-clause-accepted c).In_ok-draft-2 before holds ∙ ap (λ (draft : Draft). Ok draft) (sym c.of.ensures)
+
+pub returns-in_err-needed-clause-refused : goal.returns-in_err-needed-clause-refused
+returns-in_err-needed-clause-refused c kind before is holds =
+    let p = err_from_is_err_and c.from_residual.result c.from_residual.ensures.1 in
+    let told : c.in_err-needed.field-0.0 ≡ kind = cc (p.1, p.2, is) in
+    whole_missing before kind (sym (c.in_err-needed.ensures before holds) ∙ ap (λ (why : Kind). Err why) told)
+
+pub returns-in_err-draft-clause-refused : goal.returns-in_err-draft-clause-refused
+returns-in_err-draft-clause-refused c kind before is holds =
+    let p = err_from_is_err_and c.from_residual-in_err-draft.result c.from_residual-in_err-draft.ensures.1 in
+    whole_excess before c.in_ok-needed.needed kind (sym (c.in_ok-needed.ensures before holds)) (c.in_err-draft.ensures.refused kind before (cc (p.1, p.2, is)) holds)
+
+pub returns-in_err-draft-2-clause-refused : goal.returns-in_err-draft-2-clause-refused
+returns-in_err-draft-2-clause-refused c kind before is holds =
+    let p = err_from_is_err_and c.from_residual-in_err-draft-2.result c.from_residual-in_err-draft-2.ensures.1 in
+    let told : c.in_err-draft-2.field-0.0 ≡ kind = cc (p.1, p.2, is) in
+    whole_excess before c.in_ok-needed.needed kind (sym (c.in_ok-needed.ensures before holds))
+    (ap bounded (sym (c.in_ok-draft.ensures.content before holds)) ∙ sym c.in_err-draft-2.ensures ∙ ap (λ (why : Kind). Err why) told)

@@ -1,0 +1,17 @@
+pub mod Births
+pub mod Responses
+pub mod Skips
+pub mod Crossings
+pub mod Planes
+pub mod Nearness
+pub mod Bounds
+pub mod Seeing
+pub mod Ends
+pub mod Kept
+pub mod Diffusing
+pub mod Meeting
+pub mod Reacting
+pub mod Stepping
+pub mod Opening
+pub mod Places
+pub mod Sights

@@ -1,0 +1,108 @@
+-- What decides among the plates that are met.
+use Rattle.std.proofs.Common.{⊎_elim, ◌≡◌, ◌≢◌, ℕ, zero, suc, ◌+◌, ◌*◌, ◌<◌, ◌≤◌, Bool, true, false, ◌⊎◌, inl, inr, List, [], ◌∷◌, cond, refl, sym, ◌∙◌, ap, subst, arith, ℤ, pos, ◌≤ℤ◌, ◌*ℤ◌, int_le}
+use Rattle.std.proofs.lemmas.Bool.{cases_Bool, cond_both, both_ways, le-leb, and_from, and_parts, eq-eqb, eqb-true, leb-true}
+use Rattle.std.proofs.lemmas.Int.{ints}
+use borrow.Author.Differences.{le-true, le-false}
+use Rattle.smol_geom.specs.declared.place.Place.{Place}
+use Rattle.smol_geom.specs.declared.place.Step3.{Step3}
+use Rattle.smol_geom.specs.declared.moment.Moment.{Moment}
+use Rattle.smol_geom.specs.declared.fold.Fold.{Fold}
+use Rattle.smol_geom.specs.declared.rect.Rect.{Rect}
+use Rattle.smol_geom.specs.Axes.{on_axis}
+use Rattle.smol_geom.specs.Fraction.{Fraction, whole, ◌≤ℚ◌}
+use Rattle.smol_geom.specs.Fold.{true_point}
+use Rattle.smol_geom.specs.Moment.{part_of}
+use Rattle.smol_geom.specs.Rect.{HoldsPoint, IsInRange}
+use Rattle.smol_meaning.specs.declared.way.Response.{Response}
+use Rattle.smol_meaning.specs.declared.way.Response.TheVariants.{Reflect, Absorb, Jump, Pass}
+use Rattle.smol_meaning.specs.Plates.{Plate, Sheet, Rectangle, Plane, IsOn, is_between, is_in_rect, is_on, is_met, goes_up, response_of, responses_met, first_of, precedence, deciding}
+use Rattle.smol_geom.specs.Moments.{Has}
+use Rattle.smol_geom.proofs.Integers.{sums}
+use Rattle.smol_meaning.specs.Box.{StaysPut}
+
+at_most_from : (a b : ℤ) → a ≤ℤ b → int_le a b ≡ true
+at_most_from a b h = ⊎_elim (λ e. e) (λ e. let no = le-false a b e in absurd (omega (arith, ints))) (cases_Bool (int_le a b))
+
+at_most_is : (a b : ℤ) → int_le a b ≡ true → a ≤ℤ b
+at_most_is a b e = let yes = le-true a b e in omega (arith, ints)
+
+pub between_from : (low high : ℤ) (x : Fraction) → whole low ≤ℚ x → x ≤ℚ whole high → is_between low high x ≡ true
+between_from low high x l h = and_from _ _ (at_most_from _ _ l) (at_most_from _ _ h)
+
+pub between_is : (low high : ℤ) (x : Fraction) → is_between low high x ≡ true → (whole low ≤ℚ x) × (x ≤ℚ whole high)
+between_is low high x e = let p = and_parts _ _ e in (at_most_is _ _ p.0, at_most_is _ _ p.1)
+
+-- the test says whether the rectangle holds the point
+pub holds_from : (rect : Rect) (point : ℕ → Fraction) → HoldsPoint rect point → is_in_rect rect point ≡ true
+holds_from rect point h =
+    and_from _ _ (between_from _ _ (point 0) h.0.low h.0.high)
+    (and_from _ _ (between_from _ _ (point 1) h.1.low h.1.high) (between_from _ _ (point 2) h.2.low h.2.high))
+
+pub holds_is : (rect : Rect) (point : ℕ → Fraction) → is_in_rect rect point ≡ true → HoldsPoint rect point
+holds_is rect point e =
+    let p = and_parts _ _ e in
+    let q = and_parts _ _ p.1 in
+    let x = between_is _ _ (point 0) p.0 in
+    let y = between_is _ _ (point 1) q.0 in
+    let z = between_is _ _ (point 2) q.1 in
+    (record { low = x.0; high = x.1 }, record { low = y.0; high = y.1 }, record { low = z.0; high = z.1 })
+
+-- a number is from a whole number to itself where it is that number
+pub both_ends : (plane n d : ℤ) → n *ℤ pos 1 ≡ plane *ℤ d → ((plane *ℤ d) ≤ℤ (n *ℤ pos 1)) × ((n *ℤ pos 1) ≤ℤ (plane *ℤ d))
+both_ends plane n d e = (omega (arith, sums, e), omega (arith, sums, e))
+
+one_number : (plane n d : ℤ) → (plane *ℤ d) ≤ℤ (n *ℤ pos 1) → (n *ℤ pos 1) ≤ℤ (plane *ℤ d) → n *ℤ pos 1 ≡ plane *ℤ d
+one_number plane n d low high = omega (arith, sums, low, high)
+
+-- the test says whether the point is on the sheet
+pub on_from : (sheet : Sheet) (point : ℕ → Fraction) → IsOn sheet point → is_on sheet point ≡ true
+on_from (Rectangle rect) point h = holds_from rect point h
+on_from (Plane axis plane) point h =
+    let ends = both_ends plane (point axis).num (pos (point axis).den) h in
+    between_from plane plane (point axis) ends.0 ends.1
+
+pub on_is : (sheet : Sheet) (point : ℕ → Fraction) → is_on sheet point ≡ true → IsOn sheet point
+on_is (Rectangle rect) point e = holds_is rect point e
+on_is (Plane axis plane) point e =
+    let ends = between_is plane plane (point axis) e in
+    one_number plane (point axis).num (pos (point axis).den) ends.0 ends.1
+
+-- a response of the least precedence reflects
+least : (response : Response) → precedence response ≤ 0 → response ≡ Reflect
+least Reflect h = refl
+least (Absorb n) h = absurd (omega arith)
+least (Jump by up) h = absurd (omega arith)
+least Pass h = absurd (omega arith)
+
+module _ (from : Place) (by : Step3) (f : Fold) (m : Moment) where
+  -- where a plate is met that reflects, it decides: the motion turns back
+  pub reflect_decides : (plates : List Plate) (plate : Plate) → Has plates plate → is_met from by f m plate.sheet ≡ true
+      → response_of plate (goes_up by f m.axis) ≡ Reflect → deciding (responses_met plates from by f m) ≡ Reflect
+  unfolding deciding responses_met
+  reflect_decides [] plate h met reflects = absurd h
+  reflect_decides (p ∷ plates) plate (inl same) met reflects =
+      let here : is_met from by f m p.sheet ≡ true = ap (λ (x : Plate). is_met from by f m x.sheet) same ∙ met in
+      let response : response_of p (goes_up by f m.axis) ≡ Reflect = ap (λ x. response_of x (goes_up by f m.axis)) same ∙ reflects in
+      rw (here, response, le-leb 0 (precedence (deciding (responses_met plates from by f m))) (omega arith)) refl
+  reflect_decides (p ∷ plates) plate (inr there) met reflects =
+      let later = reflect_decides plates plate there met reflects in
+      cond_both (is_met from by f m p.sheet) (response_of p (goes_up by f m.axis) ∷ responses_met plates from by f m) (responses_met plates from by f m) (λ acts. deciding acts ≡ Reflect)
+      (λ e. rw later (first (response_of p (goes_up by f m.axis))))
+      (λ e. later)
+    where
+      first : (response : Response) → first_of response Reflect ≡ Reflect
+      first Reflect = refl
+      first (Absorb n) = refl
+      first (Jump by up) = refl
+      first Pass = refl
+
+  -- where no response of a plate that is met translates, what decides doesn't
+  pub deciding_quiet : (plates : List Plate) → ((p : Plate) → Has plates p → is_met from by f m p.sheet ≡ true → StaysPut (response_of p (goes_up by f m.axis)))
+      → StaysPut (deciding (responses_met plates from by f m))
+  unfolding deciding responses_met
+  deciding_quiet [] quiet = tt
+  deciding_quiet (p ∷ plates) quiet =
+      let later = deciding_quiet plates (λ q h met. quiet q (inr h) met) in
+      cond_both (is_met from by f m p.sheet) (response_of p (goes_up by f m.axis) ∷ responses_met plates from by f m) (responses_met plates from by f m) (λ acts. StaysPut (deciding acts))
+      (λ e. cond_both _ (response_of p (goes_up by f m.axis)) (deciding (responses_met plates from by f m)) StaysPut (λ l. quiet p (inl refl) e) (λ l. later))
+      (λ e. later)

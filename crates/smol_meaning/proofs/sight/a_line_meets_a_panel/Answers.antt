@@ -1,0 +1,5 @@
+use Rattle.smol_meaning.proofs.Sights.{meets_decides}
+use Rattle.smol_meaning.proofs.sight.a_line_meets_a_panel.Goals as goal
+
+pub returns : goal.returns
+returns c = meets_decides

@@ -1,0 +1,6 @@
+mod Deciding
+mod Jumps
+mod Meets
+mod Scan
+mod Ticks
+mod Walking

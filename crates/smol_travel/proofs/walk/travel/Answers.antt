@@ -1,0 +1,79 @@
+use Rattle.std.proofs.Common.{◌≡◌, ◌<◌, refl, sym, ◌∙◌, ap, subst, arith}
+use Rattle.smol_geom.specs.declared.moment.Moment.{Moment}
+use Rattle.smol_geom.specs.Moments.{moments, moments_after}
+use Rattle.smol_types.specs.declared.draft.Draft.{Draft}
+use Rattle.smol_meaning.specs.declared.way.Standing.TheVariants.{Goes, Gone}
+use Rattle.smol_meaning.specs.declared.way.Travelled.TheVariants.{At}
+use Rattle.smol_meaning.specs.Moves.{IsMove, EndsWithin}
+use Rattle.smol_meaning.specs.Seen.{plates_of, way}
+use Rattle.smol_meaning.specs.Way.{after_moments, ended, straight, way_among}
+use Rattle.smol_meaning.proofs.Crossings.{crosses_none}
+use Rattle.smol_meaning.proofs.Ends.{straight_fits, way_ends_within}
+use Rattle.smol_travel.specs.Meetings.{NothingBefore, NothingLeft, sheets_of}
+use Rattle.smol_travel.proofs.Walking.{after_beginning, none_seen, step_on, fewer_left, stays, gone_stays}
+use Rattle.smol_travel.proofs.walk.travel.Goals as goal
+
+pub loop-next-init : goal.loop-next-init
+loop-next-init c =
+    record {
+      fits = straight_fits c.config-config.result.now.dims c.args.from c.args.by
+          (subst (λ (draft : Draft). IsMove draft.dims c.args.from c.args.by) (sym c.config-config.ensures.value) c.requires.moving);
+      positive = omega arith;
+      rest = ap (λ ms. after_moments (plates_of c.config-config.result.now c.args.species) c.args.from c.args.by (Goes straight) ms) (after_beginning c.args.from c.args.by);
+    }
+
+pub loop-next-preserved : goal.loop-next-preserved
+loop-next-preserved c =
+    let plates = plates_of c.config-config.result.now c.args.species in
+    let sheets = sheets_of c.config-config.result.now in
+    let free = none_seen c.config-config.result.now c.args.species c.args.from c.args.by c.loop-next.fold in
+    let left = moments_after c.in-Some.next (moments c.args.from c.args.by) in
+    let before = subst (λ (draft : Draft). NothingBefore (sheets_of draft) c.args.from c.args.by c.loop-next.fold c.loop-next.last c.in-Some.next) (sym c.config-config.ensures.value) c.in-Some.ensures in
+    let made = ap (λ s. after_moments plates c.args.from c.args.by s left) c.in-Goes.ensures.value in
+    let stepped = step_on sheets plates c.args.from c.args.by c.loop-next.fold c.loop-next.last free c.loop-next.invariant.positive c.in-Some.next before in
+    record {
+      fits = c.in-Goes.ensures.fits;
+      positive = omega (arith, before.is_later.moment.begun, before.is_later.moment.unfinished);
+      rest = made ∙ sym stepped ∙ c.loop-next.invariant.rest;
+    }
+
+pub loop-next-smaller : goal.loop-next-smaller
+loop-next-smaller c =
+    let free = none_seen c.config-config.result.now c.args.species c.args.from c.args.by c.loop-next.fold in
+    fewer_left (sheets_of c.config-config.result.now) (plates_of c.config-config.result.now c.args.species) c.args.from c.args.by c.loop-next.fold c.loop-next.last free
+    c.loop-next.invariant.positive c.in-Some.next c.in-Some.ensures.is_later
+
+pub returns-in-Gone-clause-way : goal.returns-in-Gone-clause-way
+unfolding way_among
+returns-in-Gone-clause-way c =
+    let plates = plates_of c.config-config.result.now c.args.species in
+    let sheets = sheets_of c.config-config.result.now in
+    let free = none_seen c.config-config.result.now c.args.species c.args.from c.args.by c.loop-next.fold in
+    let left = moments_after c.in-Some.next (moments c.args.from c.args.by) in
+    let before = subst (λ (draft : Draft). NothingBefore (sheets_of draft) c.args.from c.args.by c.loop-next.fold c.loop-next.last c.in-Some.next) (sym c.config-config.ensures.value) c.in-Some.ensures in
+    let made = ap (λ s. after_moments plates c.args.from c.args.by s left) c.in-Gone.ensures.value in
+    let stepped = step_on sheets plates c.args.from c.args.by c.loop-next.fold c.loop-next.last free c.loop-next.invariant.positive c.in-Some.next before in
+    let ends = sym (gone_stays plates c.args.from c.args.by c.in-Gone.number left) in
+    ap (ended c.args.from c.args.by) (ends ∙ made ∙ sym stepped ∙ c.loop-next.invariant.rest)
+    ∙ ap (λ (draft : Draft). way draft c.args.species c.args.from c.args.by) c.config-config.ensures.value
+
+pub returns-clause-way : goal.returns-clause-way
+unfolding way_among
+returns-clause-way c =
+    let plates = plates_of c.config-config.result.now c.args.species in
+    let free = none_seen c.config-config.result.now c.args.species c.args.from c.args.by c.loop-next.fold in
+    let nothing = subst (λ (draft : Draft). NothingLeft (sheets_of draft) c.args.from c.args.by c.loop-next.fold c.loop-next.last) (sym c.config-config.ensures.value) c.in_default.ensures in
+    let same = stays (sheets_of c.config-config.result.now) plates c.args.from c.args.by c.loop-next.fold c.loop-next.last free nothing in
+    ap (λ p. At p) c.end_of.ensures ∙ ap (ended c.args.from c.args.by) (sym same ∙ c.loop-next.invariant.rest)
+    ∙ ap (λ (draft : Draft). way draft c.args.species c.args.from c.args.by) c.config-config.ensures.value
+
+pub returns-in-Gone-clause-crosses_none : goal.returns-in-Gone-clause-crosses_none
+returns-in-Gone-clause-crosses_none c = crosses_none (plates_of c.args.panels.now c.args.species) c.args.from c.args.by
+
+pub returns-clause-crosses_none : goal.returns-clause-crosses_none
+returns-clause-crosses_none c = crosses_none (plates_of c.args.panels.now c.args.species) c.args.from c.args.by
+
+pub returns-clause-end : goal.returns-clause-end
+returns-clause-end c =
+    subst (EndsWithin c.args.panels.now.dims c.args.from c.args.by) (sym (returns-clause-way c))
+    (way_ends_within c.args.panels.now c.args.species c.args.from c.args.by c.config-config.ensures.sound c.requires.moving)
