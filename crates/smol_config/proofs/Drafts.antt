@@ -4,7 +4,7 @@ use Rattle.std.specs.List.{list_all}
 use Rattle.std.proofs.lemmas.Int.{ints}
 use Rattle.smol_types.specs.declared.draft.Draft.{Draft}
 use Rattle.smol_types.specs.declared.fault.Kind.{Kind}
-use Rattle.smol_types.specs.declared.fault.Kind.TheVariants.{OutOfRange, TooMany}
+use Rattle.smol_types.specs.declared.fault.Kind.TheVariants.{OutOfRange, ProbabilitySum, TooMany}
 use Rattle.smol_types.specs.declared.species.Species.{Species}
 use Rattle.smol_types.specs.declared.wall.Wall.{Wall}
 use Rattle.smol_types.specs.Steps.{last_step}
@@ -16,7 +16,7 @@ use Rattle.smol_config.specs.MaxMol.{limit_of}
 use Rattle.smol_config.specs.Species.{species_of}
 use Rattle.smol_config.specs.Content.{content_of, species_from, started, walls_of}
 use Rattle.smol_config.specs.Tables.{Holds, species_made}
-use Rattle.smol_config.specs.Whole.{bounded, has_difstep, has_few_steps}
+use Rattle.smol_config.specs.Whole.{bounded, has_chances, has_difstep, has_few_steps}
 use Rattle.smol_config.proofs.SpeciesNames.{species_are}
 
 -- the draft that the tables make, with these species and walls
@@ -28,7 +28,7 @@ drafted needed tables species walls = record {
   surfaces = [];
   panels = [];
   compartments = [];
-  reactions = [];
+  reactions = tables.reactions.list.items;
   placings = tables.placings;
   commands = tables.commands;
   outputs = [];
@@ -60,7 +60,7 @@ module _ (needed : Needed) (tables : Tables) (before : List Said) (h : Holds tab
         surfaces = [];
         panels = [];
         compartments = [];
-        reactions = [];
+        reactions = h.reactions.list i;
         placings = h.placings i;
         commands = h.commands i;
         outputs = [];
@@ -72,14 +72,19 @@ module _ (needed : Needed) (tables : Tables) (before : List Said) (h : Holds tab
       }
 
 -- too many steps are told first
-pub bounded-many : (draft : Draft) → has_few_steps draft ≡ false → bounded draft ≡ Err TooMany
+pub bounded-many : (chances : List (Option ℕ)) (draft : Draft) → has_few_steps draft ≡ false → bounded chances draft ≡ Err TooMany
 unfolding bounded
-bounded-many draft many = rw many refl
+bounded-many chances draft many = rw many refl
 
 -- then difsteps that are too large
-pub bounded-far : (draft : Draft) → has_few_steps draft ≡ true → list_all has_difstep draft.species ≡ false → bounded draft ≡ Err OutOfRange
+pub bounded-far : (chances : List (Option ℕ)) (draft : Draft) → has_few_steps draft ≡ true → list_all has_difstep draft.species ≡ false → bounded chances draft ≡ Err OutOfRange
 unfolding bounded
-bounded-far draft few far = rw (few, far) refl
+bounded-far chances draft few far = rw (few, far) refl
+
+-- then probabilities that are too large
+pub bounded-likely : (chances : List (Option ℕ)) (draft : Draft) → has_few_steps draft ≡ true → list_all has_difstep draft.species ≡ true → has_chances chances draft ≡ false → bounded chances draft ≡ Err ProbabilitySum
+unfolding bounded
+bounded-likely chances draft few near likely = rw (few, near, likely) refl
 
 -- a time within the limits stays as it is in 64 bits
 pub time_kept : (time : ℤ) → unsigned_abs time ≤ 1000000000000000000 → to_z w64 (of_z w64 time) ≡ time

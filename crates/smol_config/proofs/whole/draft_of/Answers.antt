@@ -3,6 +3,8 @@ use Rattle.std.specs.List.{list_all}
 use Rattle.std.proofs.lemmas.Result.{err_from_is_err_and}
 use Rattle.smol_types.specs.declared.fault.Kind.{Kind}
 use Rattle.smol_types.specs.declared.fault.Kind.TheVariants.{TooMany}
+use Rattle.smol_reactions.specs.Content.{chances_of}
+use Rattle.smol_config.specs.Reactions.{reactions_said}
 use Rattle.smol_config.specs.Content.{content_of}
 use Rattle.smol_config.specs.Tables.{species_made}
 use Rattle.smol_config.specs.Whole.{has_difstep}
@@ -15,7 +17,7 @@ returns-in_err-unless-clause-refused c kind before is holds =
     let failed = unless_fails (nat_le c.last_step-few.result 4000000) c.in_err-unless.field-0.0 TooMany c.in_err-unless.ensures.fault in
     let p = err_from_is_err_and c.from_residual.result c.from_residual.ensures.1 in
     let told : TooMany ≡ kind = cc (p.1, p.2, is, failed.1) in
-    bounded-many (content_of c.args.needed before) (sym few ∙ failed.0) ∙ ap (λ (why : Kind). Err why) told
+    bounded-many (chances_of (reactions_said before)) (content_of c.args.needed before) (sym few ∙ failed.0) ∙ ap (λ (why : Kind). Err why) told
 
 pub returns-in_err-species-clause-refused : goal.returns-in_err-species-clause-refused
 unfolding content_of
@@ -28,7 +30,7 @@ returns-in_err-species-clause-refused c kind before is holds =
     ap (list_all has_difstep) (sym (species_held c.args.needed tables before holds))
     ∙ ap (λ (t : ℤ). list_all has_difstep (species_made t tables.species.motions.items 0 tables.species.names)) (sym (time_kept c.args.needed.step c.requires.step))
     ∙ failed.1 in
-    bounded-far (content_of c.args.needed before) (sym few ∙ c.in_ok-unless.ensures.holds) far ∙ ap (λ (why : Kind). Err why) (sym failed.0)
+    bounded-far (chances_of (reactions_said before)) (content_of c.args.needed before) (sym few ∙ c.in_ok-unless.ensures.holds) far ∙ ap (λ (why : Kind). Err why) (sym failed.0)
 
 pub returns-clause-content : goal.returns-clause-content
 returns-clause-content c before holds =
