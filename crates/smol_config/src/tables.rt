@@ -142,8 +142,8 @@ impl Tables {
         requires kept { IsKept self.old.reactions }
         ensures { Reads (statement_in statement.Reaction) line.now self.old self.new result }
     {
-        let species = &self.species.names;
-        self.reactions.read_reaction(alloc, species, line)
+        let species = &self.species;
+        self.reactions.read_reaction(alloc, &species.names, line)
     }
 
     fn read_binding_radius(&mut self, line: &StatedLine<'_>) -> Result<(), Refusal>
@@ -169,9 +169,10 @@ impl Tables {
         requires kept { IsKept self.old.reactions }
         ensures { Reads (statement_in statement.ProductPlacement) line.now self.old self.new result }
     {
-        let species = &self.species.names;
+        let dims = self.dims;
+        let species = &self.species;
         self.reactions
-            .read_product_placement(alloc, self.dims, species, line)
+            .read_product_placement(alloc, dims, &species.names, line)
     }
 
     fn read_cmd(&mut self, alloc: Global, line: &StatedLine<'_>) -> Result<(), Refusal>

@@ -203,9 +203,10 @@ fn draft_of(alloc: Global, needed: Needed, tables: Tables) -> Result<Draft, Refu
     let few = last_step(start, needed.stop, needed.step) <= MOST_STEPS;
     unless(few, Kind::TooMany)?;
     let species = make_species(alloc, &tables.species, needed.step)?;
-    let shared = tables.reactions.are_shared(species.len() as u16);
+    let shared = tables.reactions.are_shared(tables.species.names.len() as u16);
     unless(shared, Kind::ProbabilitySum)?;
     let walls = walls_of(alloc, &tables.bounds)?;
+    let reactions = tables.reactions.into_list();
     Ok(Draft {
         dims: needed.dims,
         species,
@@ -213,7 +214,7 @@ fn draft_of(alloc: Global, needed: Needed, tables: Tables) -> Result<Draft, Refu
         surfaces: Items::new(alloc),
         panels: Items::new(alloc),
         compartments: Items::new(alloc),
-        reactions: Items::from_vec(tables.reactions.list),
+        reactions,
         placings: tables.placings,
         commands: tables.commands,
         outputs: Items::new(alloc),

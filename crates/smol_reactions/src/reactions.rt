@@ -302,6 +302,13 @@ impl Reactions {
         Ok(())
     }
 
+    /// The reactions as the lines tell them. Takes no memory.
+    pub fn into_list(self) -> Items<Reaction>
+        ensures { result ≡ self.list.items }
+    {
+        Items::from_vec(self.list)
+    }
+
     /// How likely the reactions of which the species is the one reactant are together, in billionths.
     pub fn chance_sum(&self, species: u16) -> u64
         requires kept { IsKept self.now }
