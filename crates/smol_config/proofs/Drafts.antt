@@ -1,5 +1,5 @@
 -- The draft that the tables make is what the lines say, and its tests are those of the whole file.
-use Rattle.std.proofs.Common.{◌≡◌, ◌≤◌, ℕ, Bool, true, false, ℤ, pos, nat_le, IfSome, unsigned_abs, to_z, of_z, w64, arith, List, [], Option, None, Some, Result, Ok, Err, slice_index_or, unwrap_or, refl, sym, ap, ◌∙◌}
+use Rattle.std.proofs.Common.{◌≡◌, ◌+◌, ◌≤◌, ◌∷◌, length, suc, ℕ, Bool, true, false, ℤ, pos, nat_le, IfSome, unsigned_abs, to_z, of_z, w64, arith, List, [], Option, None, Some, Result, Ok, Err, slice_index_or, unwrap_or, refl, sym, ap, ◌∙◌}
 use Rattle.std.specs.List.{list_all}
 use Rattle.std.proofs.lemmas.Int.{ints}
 use Rattle.smol_types.specs.declared.draft.Draft.{Draft}
@@ -9,15 +9,19 @@ use Rattle.smol_types.specs.declared.species.Species.{Species}
 use Rattle.smol_types.specs.declared.wall.Wall.{Wall}
 use Rattle.smol_types.specs.Steps.{last_step}
 use Rattle.smol_line.specs.Checks.{unless}
+use Rattle.smol_reactions.specs.Content.{are_shared, chances_of}
+use Rattle.smol_config.specs.declared.motion.Motion.{Motion}
 use Rattle.smol_config.specs.declared.tables.Tables.{Tables}
 use Rattle.smol_config.specs.declared.whole.Needed.{Needed}
 use Rattle.smol_config.specs.Said.{Said}
 use Rattle.smol_config.specs.MaxMol.{limit_of}
+use Rattle.smol_config.specs.Reactions.{reactions_said}
 use Rattle.smol_config.specs.Species.{species_of}
 use Rattle.smol_config.specs.Content.{content_of, species_from, started, walls_of}
 use Rattle.smol_config.specs.Tables.{Holds, species_made}
 use Rattle.smol_config.specs.Whole.{bounded, has_chances, has_difstep, has_few_steps}
 use Rattle.smol_config.proofs.SpeciesNames.{species_are}
+use Rattle.smol_config.proofs.WholeSound.{length-species_from}
 
 -- the draft that the tables make, with these species and walls
 abbrev pub drafted : Needed → Tables → List Species → List Wall → Draft
@@ -70,6 +74,16 @@ module _ (needed : Needed) (tables : Tables) (before : List Said) (h : Holds tab
         max_mol = limit_of (h.max_mol i);
         seed = h.seed i;
       }
+
+pub length-species_made : (time : ℤ) (motions : List Motion) (number : ℕ) (names : List (List ℕ)) → length (species_made time motions number names) ≡ length names
+length-species_made time motions number [] = refl
+length-species_made time motions number (name ∷ names) = ap suc (length-species_made time motions (number + 1) names)
+
+-- whether one whole is enough for each species, by the tables and by the content
+pub shared_held : (needed : Needed) (tables : Tables) (before : List Said) → Holds tables before → are_shared (length tables.species.names) tables.reactions.list.items tables.reactions.chances.items ≡ has_chances (chances_of (reactions_said before)) (content_of needed before)
+unfolding content_of
+shared_held needed tables before h =
+    rw (length-species_from needed.step before 0 (species_of before), h.species, h.reactions.list, h.reactions.chances) refl
 
 -- too many steps are told first
 pub bounded-many : (chances : List (Option ℕ)) (draft : Draft) → has_few_steps draft ≡ false → bounded chances draft ≡ Err TooMany

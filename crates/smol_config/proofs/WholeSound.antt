@@ -140,7 +140,7 @@ are_walls dims (Some x) (Some y) (Some z) least most has_x has_y has_z sound_x s
     let used = sound_z.in_use in
     ((walls_are_axis 0 (Some dims) x sound_x, (walls_are_axis 1 (Some dims) y sound_y, (walls_are_axis 2 (Some dims) z sound_z, tt))), omega arith)
 
-length-species_from : (time : ℤ) (before : List Said) (number : ℕ) (names : List (List ℕ)) → length (species_from time before number names) ≡ length names
+pub length-species_from : (time : ℤ) (before : List Said) (number : ℕ) (names : List (List ℕ)) → length (species_from time before number names) ≡ length names
 length-species_from time before number [] = refl
 length-species_from time before number (name ∷ names) = ap suc (length-species_from time before (number + 1) names)
 
