@@ -37,7 +37,7 @@ use Rattle.smol_config.specs.Mol.{placings_of}
 use Rattle.smol_config.specs.Reactions.{reactions_said}
 use Rattle.smol_config.specs.Cmd.{commands_of}
 use Rattle.smol_config.specs.Content.{content_of, species_from, started, walls_of}
-use Rattle.smol_config.specs.Whole.{bounded, has_chances, has_difstep, has_few_steps, has_room, is_idle, needed_in, whole_in}
+use Rattle.smol_config.specs.Whole.{bounded, has_chances, has_difstep, has_few_steps, has_room, needed_in, whole_in}
 use Rattle.smol_config.specs.Reader.{config_from, config_of, line_in, lines_in, read_from}
 use Rattle.smol_config.specs.SoFar.{IsBounded, IsSoFar}
 use Rattle.smol_config.specs.Tables.{AreSmall}
@@ -86,13 +86,11 @@ bounded_is chances draft found is =
     let near = unless (list_all has_difstep draft.species) kind.OutOfRange in
     let shared = unless (has_chances chances draft) kind.ProbabilitySum in
     let room = unless (has_room draft) kind.TooMany in
-    let idle = unless (is_idle draft) kind.NotInProfile in
     let all : Result Draft Kind = Ok draft in
-    let a = passed few (near ∷ shared ∷ room ∷ idle ∷ []) all found is in
-    let b = passed near (shared ∷ room ∷ idle ∷ []) all found a.1 in
-    let e = passed shared (room ∷ idle ∷ []) all found b.1 in
-    let c = passed room (idle ∷ []) all found e.1 in
-    let d = passed idle [] all found c.1 in
+    let a = passed few (near ∷ shared ∷ room ∷ []) all found is in
+    let b = passed near (shared ∷ room ∷ []) all found a.1 in
+    let e = passed shared (room ∷ []) all found b.1 in
+    let c = passed room [] all found e.1 in
     let same : draft ≡ found = cc in
     (same, holds (has_few_steps draft) kind.TooMany a.0, holds (list_all has_difstep draft.species) kind.OutOfRange b.0, holds (has_room draft) kind.TooMany c.0, holds (has_chances chances draft) kind.ProbabilitySum e.0)
 

@@ -1,14 +1,11 @@
 -- The tests of the whole file, after its last line: what is missing, and what is too much.
-use Rattle.std.specs.Prelude.{ℕ, ◌==◌, ◌||◌, Bool, false, true, nat_le, sum_by, List, [], ◌∷◌, length, Option, Result, Ok, Err}
+use Rattle.std.specs.Prelude.{ℕ, Bool, nat_le, sum_by, List, [], ◌∷◌, length, Option, Result, Ok, Err}
 use Rattle.std.specs.List.{list_all}
 use Rattle.smol_types.specs.declared.fault.Kind.{Kind}
-use Rattle.smol_types.specs.declared.fault.Kind.TheVariants.{Missing, OutOfRange, ProbabilitySum, TooMany, NotInProfile}
+use Rattle.smol_types.specs.declared.fault.Kind.TheVariants.{Missing, OutOfRange, ProbabilitySum, TooMany}
 use Rattle.smol_types.specs.declared.fault.Need.TheVariants.{Dim, Boundaries, TimeStop, TimeStep}
 use Rattle.smol_types.specs.declared.draft.Draft.{Draft}
 use Rattle.smol_types.specs.declared.species.Species.{Species}
-use Rattle.smol_types.specs.declared.wall.Wall.{Wall}
-use Rattle.smol_types.specs.declared.wall.Letter.{Letter}
-use Rattle.smol_types.specs.declared.wall.Letter.TheVariants.{R, P, A, T}
 use Rattle.smol_types.specs.Limits.{longest, most_steps}
 use Rattle.smol_types.specs.Placings.{placed_by}
 use Rattle.smol_types.specs.Steps.{last_step}
@@ -52,23 +49,6 @@ has_chances chances draft = are_shared (length draft.species) draft.reactions ch
 abbrev pub has_room : Draft → Bool
 has_room draft = nat_le (sum_by placed_by draft.placings) draft.max_mol
 
-abbrev pub stands_still : Species → Bool
-stands_still species = species.step == 0
-
--- walls of this letter let molecules through
-abbrev pub lets_through : Letter → Bool
-lets_through R = false
-lets_through P = false
-lets_through A = false
-lets_through T = true
-
-abbrev pub is_open : Wall → Bool
-is_open wall = lets_through wall.letter
-
--- no wall has anything to do: no species moves, or the walls let molecules through
-abbrev pub is_idle : Draft → Bool
-is_idle draft = list_all stands_still draft.species || list_all is_open draft.walls
-
 -- what the lines say together, with the probabilities that reactions were given, unless something in it is too much
 unfoldable pub bounded : List (Option ℕ) → Draft → Result Draft Kind
 bounded chances draft =
@@ -77,7 +57,6 @@ bounded chances draft =
     ∷ unless (list_all has_difstep draft.species) OutOfRange
     ∷ unless (has_chances chances draft) ProbabilitySum
     ∷ unless (has_room draft) TooMany
-    ∷ unless (is_idle draft) NotInProfile
     ∷ [])
     (Ok draft)
 

@@ -13,16 +13,14 @@ ghost use Rattle.smol_config.specs.Said.{Said};
 ghost use Rattle.smol_config.specs.Motion.{difstep_of};
 ghost use Rattle.smol_config.specs.Content.{content_of, walls_at, walls_of};
 ghost use Rattle.smol_config.specs.Tables.{AreSmall, Holds, IsReached, species_made};
-ghost use Rattle.smol_config.specs.Whole.{bounded, has_chances, has_difstep, has_few_steps, is_idle, is_open, lets_through, needed_in, stands_still, whole_in};
+ghost use Rattle.smol_config.specs.Whole.{bounded, has_chances, has_difstep, has_few_steps, needed_in, whole_in};
 
 use crate::motion::{MOST_DIFSTEP, Motion, difstep_of};
 use crate::species_table::SpeciesTable;
 use crate::tables::Tables;
 use crate::walls::{Bounds, is_walled};
 use smol_line::{Refusal, unless};
-use smol_types::{
-    Config, Draft, Items, Kind, Letter, Name, Need, Placing, Species, Wall, last_step,
-};
+use smol_types::{Config, Draft, Items, Kind, Name, Need, Placing, Species, Wall, last_step};
 use std::alloc::{AllocError, Global};
 
 /// How many steps a run may make.
@@ -153,34 +151,6 @@ fn are_few(placings: &[Placing], most: u32) -> bool
     true
 }
 
-// Whether walls of this letter let molecules through.
-fn lets_through(letter: Letter) -> bool
-    ensures { result ≡ lets_through letter }
-{
-    letter == Letter::T
-}
-
-// Whether no species moves.
-fn stand_still(species: &[Species]) -> bool
-    ensures { result ≡ list_all stands_still species.now }
-{
-    species.iter().all(|species| species.step == 0)
-}
-
-// Whether all walls let molecules through.
-fn are_open(walls: &[Wall]) -> bool
-    ensures { result ≡ list_all is_open walls.now }
-{
-    walls.iter().all(|wall| lets_through(wall.letter))
-}
-
-// Whether no wall has anything to do: no species moves, or the walls let molecules through.
-fn is_idle(draft: &Draft) -> bool
-    ensures { result ≡ is_idle draft.now }
-{
-    stand_still(draft.species.as_slice()) || are_open(draft.walls.as_slice())
-}
-
 // What the lines make together, as long as the steps are few and the difsteps small.
 fn draft_of(alloc: Global, needed: Needed, tables: Tables) -> Result<Draft, Refusal>
     requires start { IfSome tables.start (λ time. unsigned_abs time ≤ latest) }
@@ -203,7 +173,9 @@ fn draft_of(alloc: Global, needed: Needed, tables: Tables) -> Result<Draft, Refu
     let few = last_step(start, needed.stop, needed.step) <= MOST_STEPS;
     unless(few, Kind::TooMany)?;
     let species = make_species(alloc, &tables.species, needed.step)?;
-    let shared = tables.reactions.are_shared(tables.species.names.len() as u16);
+    let shared = tables
+        .reactions
+        .are_shared(tables.species.names.len() as u16);
     unless(shared, Kind::ProbabilitySum)?;
     let walls = walls_of(alloc, &tables.bounds)?;
     let reactions = tables.reactions.into_list();
@@ -226,7 +198,7 @@ fn draft_of(alloc: Global, needed: Needed, tables: Tables) -> Result<Draft, Refu
     })
 }
 
-// What the lines make together, unless too many molecules are placed or walls have something to do.
+// What the lines make together, unless too many molecules are placed.
 #[tactic(auto, unfolding(crate::specs::Whole::bounded))]
 fn bounded(draft: Draft) -> Result<Draft, Kind>
     requires few { has_few_steps draft ≡ true }
@@ -237,7 +209,6 @@ fn bounded(draft: Draft) -> Result<Draft, Kind>
         are_few(draft.placings.as_slice(), draft.max_mol),
         Kind::TooMany,
     )?;
-    unless(is_idle(&draft), Kind::NotInProfile)?;
     Ok(draft)
 }
 
