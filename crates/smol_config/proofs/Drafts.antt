@@ -1,23 +1,27 @@
 -- The draft that the tables make is what the lines say, and its tests are those of the whole file.
-use Rattle.std.proofs.Common.{◌≡◌, ◌≤◌, ℕ, Bool, true, false, ℤ, pos, nat_le, IfSome, unsigned_abs, to_z, of_z, w64, arith, List, [], Option, None, Some, Result, Ok, Err, slice_index_or, unwrap_or, refl, sym, ap, ◌∙◌}
+use Rattle.std.proofs.Common.{◌≡◌, ◌+◌, ◌≤◌, ◌∷◌, length, suc, ℕ, Bool, true, false, ℤ, pos, nat_le, IfSome, unsigned_abs, to_z, of_z, w64, arith, List, [], Option, None, Some, Result, Ok, Err, slice_index_or, unwrap_or, refl, sym, ap, ◌∙◌}
 use Rattle.std.specs.List.{list_all}
 use Rattle.std.proofs.lemmas.Int.{ints}
 use Rattle.smol_types.specs.declared.draft.Draft.{Draft}
 use Rattle.smol_types.specs.declared.fault.Kind.{Kind}
-use Rattle.smol_types.specs.declared.fault.Kind.TheVariants.{OutOfRange, TooMany}
+use Rattle.smol_types.specs.declared.fault.Kind.TheVariants.{OutOfRange, ProbabilitySum, TooMany}
 use Rattle.smol_types.specs.declared.species.Species.{Species}
 use Rattle.smol_types.specs.declared.wall.Wall.{Wall}
 use Rattle.smol_types.specs.Steps.{last_step}
 use Rattle.smol_line.specs.Checks.{unless}
+use Rattle.smol_reactions.specs.Content.{are_shared, chances_of}
+use Rattle.smol_config.specs.declared.motion.Motion.{Motion}
 use Rattle.smol_config.specs.declared.tables.Tables.{Tables}
 use Rattle.smol_config.specs.declared.whole.Needed.{Needed}
 use Rattle.smol_config.specs.Said.{Said}
 use Rattle.smol_config.specs.MaxMol.{limit_of}
+use Rattle.smol_config.specs.Reactions.{reactions_said}
 use Rattle.smol_config.specs.Species.{species_of}
 use Rattle.smol_config.specs.Content.{content_of, species_from, started, walls_of}
 use Rattle.smol_config.specs.Tables.{Holds, species_made}
-use Rattle.smol_config.specs.Whole.{bounded, has_difstep, has_few_steps}
+use Rattle.smol_config.specs.Whole.{bounded, has_chances, has_difstep, has_few_steps}
 use Rattle.smol_config.proofs.SpeciesNames.{species_are}
+use Rattle.smol_config.proofs.WholeSound.{length-species_from}
 
 -- the draft that the tables make, with these species and walls
 abbrev pub drafted : Needed → Tables → List Species → List Wall → Draft
@@ -28,7 +32,7 @@ drafted needed tables species walls = record {
   surfaces = [];
   panels = [];
   compartments = [];
-  reactions = [];
+  reactions = tables.reactions.list.items;
   placings = tables.placings;
   commands = tables.commands;
   outputs = [];
@@ -60,7 +64,7 @@ module _ (needed : Needed) (tables : Tables) (before : List Said) (h : Holds tab
         surfaces = [];
         panels = [];
         compartments = [];
-        reactions = [];
+        reactions = h.reactions.list i;
         placings = h.placings i;
         commands = h.commands i;
         outputs = [];
@@ -71,15 +75,30 @@ module _ (needed : Needed) (tables : Tables) (before : List Said) (h : Holds tab
         seed = h.seed i;
       }
 
+pub length-species_made : (time : ℤ) (motions : List Motion) (number : ℕ) (names : List (List ℕ)) → length (species_made time motions number names) ≡ length names
+length-species_made time motions number [] = refl
+length-species_made time motions number (name ∷ names) = ap suc (length-species_made time motions (number + 1) names)
+
+-- whether one whole is enough for each species, by the tables and by the content
+pub shared_held : (needed : Needed) (tables : Tables) (before : List Said) → Holds tables before → are_shared (length tables.species.names) tables.reactions.list.items tables.reactions.chances.items ≡ has_chances (chances_of (reactions_said before)) (content_of needed before)
+unfolding content_of
+shared_held needed tables before h =
+    rw (length-species_from needed.step before 0 (species_of before), h.species, h.reactions.list, h.reactions.chances) refl
+
 -- too many steps are told first
-pub bounded-many : (draft : Draft) → has_few_steps draft ≡ false → bounded draft ≡ Err TooMany
+pub bounded-many : (chances : List (Option ℕ)) (draft : Draft) → has_few_steps draft ≡ false → bounded chances draft ≡ Err TooMany
 unfolding bounded
-bounded-many draft many = rw many refl
+bounded-many chances draft many = rw many refl
 
 -- then difsteps that are too large
-pub bounded-far : (draft : Draft) → has_few_steps draft ≡ true → list_all has_difstep draft.species ≡ false → bounded draft ≡ Err OutOfRange
+pub bounded-far : (chances : List (Option ℕ)) (draft : Draft) → has_few_steps draft ≡ true → list_all has_difstep draft.species ≡ false → bounded chances draft ≡ Err OutOfRange
 unfolding bounded
-bounded-far draft few far = rw (few, far) refl
+bounded-far chances draft few far = rw (few, far) refl
+
+-- then probabilities that are too large
+pub bounded-likely : (chances : List (Option ℕ)) (draft : Draft) → has_few_steps draft ≡ true → list_all has_difstep draft.species ≡ true → has_chances chances draft ≡ false → bounded chances draft ≡ Err ProbabilitySum
+unfolding bounded
+bounded-likely chances draft few near likely = rw (few, near, likely) refl
 
 -- a time within the limits stays as it is in 64 bits
 pub time_kept : (time : ℤ) → unsigned_abs time ≤ 1000000000000000000 → to_z w64 (of_z w64 time) ≡ time

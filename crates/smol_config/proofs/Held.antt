@@ -9,16 +9,21 @@ use Rattle.smol_line.specs.declared.refusal.Refusal.{Refusal}
 use Rattle.smol_line.specs.declared.refusal.Refusal.TheVariants.{At, OutOfMemory}
 use Rattle.smol_line.specs.declared.species_word.Chosen.{Chosen}
 use Rattle.smol_line.specs.SpeciesWord.{is_chosen}
+use Rattle.smol_reactions.specs.declared.reactions.Reactions.{Reactions}
+use Rattle.smol_reactions.specs.ReactionSaid.{ReactionSaid}
+use Rattle.smol_reactions.specs.Table.{IsKept, Reads as ReadsReactions}
 use Rattle.smol_config.specs.declared.motion.Motion.{Motion}
 use Rattle.smol_config.specs.declared.species_table.SpeciesTable.{SpeciesTable}
+use Rattle.smol_config.specs.declared.statement.Statement.{Statement}
 use Rattle.smol_config.specs.declared.statement.Statement.TheVariants as statement
 use Rattle.smol_config.specs.declared.tables.Tables.{Tables}
 use Rattle.smol_config.specs.declared.walls.Bounds.{Bounds}
-use Rattle.smol_config.specs.Said.{Said, passed_over, axes, names, moves, starts, stops, steps, limits, seeds, walls, places, performs, say}
+use Rattle.smol_config.specs.Said.{Said, passed_over, axes, names, moves, starts, stops, steps, limits, seeds, walls, places, of_reactions, performs, say}
 use Rattle.smol_config.specs.Species.{further_words, species_in, species_of}
 use Rattle.smol_config.specs.Motion.{motion_of, still}
 use Rattle.smol_config.specs.Reader.{statement_in}
 use Rattle.smol_config.specs.Walls.{bounds_of}
+use Rattle.smol_config.specs.Reactions.{reactions_said}
 use Rattle.smol_config.specs.Tables.{AreBounds, Holds, Reads}
 
 -- the walls of an axis by its number
@@ -52,6 +57,8 @@ passed_over_held tables before h = record {
   axes = h.axes;
   bounds = record { x = h.bounds.x; y = h.bounds.y; z = h.bounds.z };
   placings = h.placings;
+  reactions = h.reactions;
+  kept = h.kept;
   commands = h.commands;
 }
 
@@ -68,6 +75,8 @@ axes_held tables before dims h = record {
   axes = h.axes;
   bounds = record { x = h.bounds.x; y = h.bounds.y; z = h.bounds.z };
   placings = h.placings;
+  reactions = h.reactions;
+  kept = h.kept;
   commands = h.commands;
 }
 
@@ -84,6 +93,8 @@ start_held tables before time h = record {
   axes = h.axes;
   bounds = record { x = h.bounds.x; y = h.bounds.y; z = h.bounds.z };
   placings = h.placings;
+  reactions = h.reactions;
+  kept = h.kept;
   commands = h.commands;
 }
 
@@ -100,6 +111,8 @@ stop_held tables before time h = record {
   axes = h.axes;
   bounds = record { x = h.bounds.x; y = h.bounds.y; z = h.bounds.z };
   placings = h.placings;
+  reactions = h.reactions;
+  kept = h.kept;
   commands = h.commands;
 }
 
@@ -116,6 +129,8 @@ step_held tables before time h = record {
   axes = h.axes;
   bounds = record { x = h.bounds.x; y = h.bounds.y; z = h.bounds.z };
   placings = h.placings;
+  reactions = h.reactions;
+  kept = h.kept;
   commands = h.commands;
 }
 
@@ -132,6 +147,8 @@ limit_held tables before count h = record {
   axes = h.axes;
   bounds = record { x = h.bounds.x; y = h.bounds.y; z = h.bounds.z };
   placings = h.placings;
+  reactions = h.reactions;
+  kept = h.kept;
   commands = h.commands;
 }
 
@@ -148,6 +165,8 @@ seed_held tables before seed h = record {
   axes = h.axes;
   bounds = record { x = h.bounds.x; y = h.bounds.y; z = h.bounds.z };
   placings = h.placings;
+  reactions = h.reactions;
+  kept = h.kept;
   commands = h.commands;
 }
 
@@ -164,6 +183,8 @@ walls_held tables before axis new within h = record {
   axes = length-set tables.bounds axis (Some new) ∙ h.axes;
   bounds = bounds_set tables.bounds before axis new h.axes within h.bounds;
   placings = h.placings;
+  reactions = h.reactions;
+  kept = h.kept;
   commands = h.commands;
 }
 
@@ -180,6 +201,8 @@ placings_held tables before placing all added h = record {
   axes = h.axes;
   bounds = record { x = h.bounds.x; y = h.bounds.y; z = h.bounds.z };
   placings = added ∙ ap (λ old. old ++ placing ∷ []) h.placings;
+  reactions = h.reactions;
+  kept = h.kept;
   commands = h.commands;
 }
 
@@ -196,6 +219,8 @@ commands_held tables before command all added h = record {
   axes = h.axes;
   bounds = record { x = h.bounds.x; y = h.bounds.y; z = h.bounds.z };
   placings = h.placings;
+  reactions = h.reactions;
+  kept = h.kept;
   commands = added ∙ ap (λ old. old ++ command ∷ []) h.commands;
 }
 
@@ -212,8 +237,40 @@ motions_held tables before chosen motion species same moved h = record {
   axes = h.axes;
   bounds = record { x = h.bounds.x; y = h.bounds.y; z = h.bounds.z };
   placings = h.placings;
+  reactions = h.reactions;
+  kept = h.kept;
   commands = h.commands;
 }
+
+-- how the reading of a line on reactions ends
+pub reactions_read : {T : Type 0} (one : Statement) (line : Stated) (tables : Tables) (reactions : Reactions) (result : Result T Refusal) (rule : List Said → List ReactionSaid → Result ReactionSaid Kind)
+    → ((before : List Said) → statement_in one before line ≡ say of_reactions (rule before (reactions_said before)))
+    → ((before : List Said) → Holds tables before → ReadsReactions (rule before) tables.reactions reactions result)
+    → OnOk result (IsKept reactions)
+    → Reads (statement_in one) line tables (record tables { reactions = reactions }) result
+reactions_read one line tables reactions (Ok done) rule is reads kept = λ before h.
+    let read = reads before h (reactions_said before) h.reactions in (
+      of_reactions read.0,
+      is before ∙ ap (say of_reactions) read.1,
+      record {
+        dims = h.dims;
+        species = h.species;
+        motions = h.motions;
+        start = h.start;
+        stop = h.stop;
+        step = h.step;
+        max_mol = h.max_mol;
+        seed = h.seed;
+        axes = h.axes;
+        bounds = record { x = h.bounds.x; y = h.bounds.y; z = h.bounds.z };
+        placings = h.placings;
+        reactions = read.2;
+        kept = kept;
+        commands = h.commands;
+      },
+    )
+reactions_read one line tables reactions (Err (At kind)) rule is reads kept = λ before h. is before ∙ ap (say of_reactions) (reads before h (reactions_said before) h.reactions)
+reactions_read one line tables reactions (Err OutOfMemory) rule is reads kept = tt
 
 -- how the reading of a `species` line ends
 pub species_reads : {T : Type 0} (line : Stated) (tables : Tables) (species : SpeciesTable) (result : Result T Refusal)
@@ -238,6 +295,8 @@ species_reads line tables species (Ok done) added same accepted refused = λ bef
     axes = h.axes;
     bounds = record { x = h.bounds.x; y = h.bounds.y; z = h.bounds.z };
     placings = h.placings;
+    reactions = h.reactions;
+    kept = h.kept;
     commands = h.commands;
   },
 )

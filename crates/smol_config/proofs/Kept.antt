@@ -14,13 +14,17 @@ use Rattle.smol_types.specs.declared.wall.Wall.{Wall}
 use Rattle.smol_types.specs.Commands.{AreSpecies, IsTest, IsAct, IsCommand}
 use Rattle.smol_types.specs.Placings.{IsPlacing}
 use Rattle.smol_line.specs.declared.species_word.Chosen.{Chosen}
+use Rattle.smol_reactions.specs.ReactionSaid.{ReactionSaid}
+use Rattle.smol_reactions.specs.Sound.{AreReactions}
+use Rattle.smol_reactions.proofs.SoundSaid.{dims_keep, species_keep}
 use Rattle.smol_config.specs.declared.motion.Motion.{Motion}
 use Rattle.smol_config.specs.declared.walls.Bounds.{Bounds}
-use Rattle.smol_config.specs.Said.{Said, passed_over, axes, names, moves, starts, stops, steps, limits, seeds, walls, places, performs}
+use Rattle.smol_config.specs.Said.{Said, passed_over, axes, names, moves, starts, stops, steps, limits, seeds, walls, places, of_reactions, performs}
 use Rattle.smol_config.specs.Dim.{dims_of}
 use Rattle.smol_config.specs.Species.{species_of}
 use Rattle.smol_config.specs.Walls.{bounds_of, is_walled, are_walled}
 use Rattle.smol_config.specs.Mol.{placings_of}
+use Rattle.smol_config.specs.Reactions.{reactions_said}
 use Rattle.smol_config.specs.Cmd.{commands_of}
 use Rattle.smol_config.specs.Content.{walls_in}
 use Rattle.smol_config.specs.SoFar.{IsBounded, IsSettled, IsSoFar}
@@ -91,6 +95,7 @@ passed_over_kept before h = record {
   z = h.z;
   settled = h.settled;
   placings = h.placings;
+  reactions = h.reactions;
   command_count = h.command_count;
   commands = h.commands;
 }
@@ -108,6 +113,7 @@ axes_kept before dims new least most h = record {
   z = unbounded 2 (dims_of before) (bounds_of 2 before) _ new h.z;
   settled = λ some. absurd (unsettled before new (h.settled some));
   placings = h.placings;
+  reactions = dims_keep (Some dims) (length (species_of before)) (reactions_said before) (subst (λ (given : Option ℕ). AreReactions given (length (species_of before)) (reactions_said before)) new h.reactions);
   command_count = h.command_count;
   commands = h.commands;
 }
@@ -128,6 +134,7 @@ names_kept before more few h =
       z = h.z;
       settled = h.settled;
       placings = All-weaker _ _ (IsPlacing-more (length (species_of before)) (length (species_of before ++ more)) 0 (walls_in before) grown) (placings_of before) h.placings;
+      reactions = species_keep (dims_of before) (length (species_of before)) (length (species_of before ++ more)) (reactions_said before) grown h.reactions;
       command_count = h.command_count;
       commands = All-weaker _ _ (IsCommand-more (length (species_of before)) (length (species_of before ++ more)) 0 0 (walls_in before) grown) (commands_of before) h.commands;
     }
@@ -145,6 +152,7 @@ moves_kept before chosen motion h = record {
   z = h.z;
   settled = h.settled;
   placings = h.placings;
+  reactions = h.reactions;
   command_count = h.command_count;
   commands = h.commands;
 }
@@ -162,6 +170,7 @@ starts_kept before time small h = record {
   z = h.z;
   settled = h.settled;
   placings = h.placings;
+  reactions = h.reactions;
   command_count = h.command_count;
   commands = h.commands;
 }
@@ -179,6 +188,7 @@ stops_kept before time small h = record {
   z = h.z;
   settled = h.settled;
   placings = h.placings;
+  reactions = h.reactions;
   command_count = h.command_count;
   commands = h.commands;
 }
@@ -196,6 +206,7 @@ steps_kept before time small above h = record {
   z = h.z;
   settled = h.settled;
   placings = h.placings;
+  reactions = h.reactions;
   command_count = h.command_count;
   commands = h.commands;
 }
@@ -213,6 +224,7 @@ limits_kept before count least most h = record {
   z = h.z;
   settled = h.settled;
   placings = h.placings;
+  reactions = h.reactions;
   command_count = h.command_count;
   commands = h.commands;
 }
@@ -230,6 +242,25 @@ seeds_kept before seed h = record {
   z = h.z;
   settled = h.settled;
   placings = h.placings;
+  reactions = h.reactions;
+  command_count = h.command_count;
+  commands = h.commands;
+}
+
+pub of_reactions_kept : (before : List Said) (said : ReactionSaid) → AreReactions (dims_of before) (length (species_of before)) (said ∷ reactions_said before) → IsSoFar before → IsSoFar (of_reactions said ∷ before)
+of_reactions_kept before said sound h = record {
+  dims = h.dims;
+  species = h.species;
+  start = h.start;
+  stop = h.stop;
+  step = h.step;
+  max_mol = h.max_mol;
+  x = h.x;
+  y = h.y;
+  z = h.z;
+  settled = h.settled;
+  placings = h.placings;
+  reactions = sound;
   command_count = h.command_count;
   commands = h.commands;
 }
@@ -247,6 +278,7 @@ places_kept before one settled is h = record {
   z = h.z;
   settled = λ some. settled;
   placings = All-push (IsPlacing (length (species_of before)) 0 (walls_in before)) (placings_of before) one h.placings is;
+  reactions = h.reactions;
   command_count = h.command_count;
   commands = h.commands;
 }
@@ -266,6 +298,7 @@ performs_kept before command settled few is h =
       z = h.z;
       settled = λ some. settled;
       placings = h.placings;
+      reactions = h.reactions;
       command_count = omega arith;
       commands = All-push (IsCommand (length (species_of before)) 0 0 (walls_in before)) (commands_of before) command h.commands is;
     }
@@ -314,6 +347,7 @@ walls_kept before dims zero bounds given used within none is h =
       z = h.z;
       settled = λ some. absurd (free some);
       placings = all_of_none (IsPlacing (length (species_of before)) 0 (walls_in (walls zero bounds ∷ before))) (placings_of before) (λ some. free (omega arith));
+      reactions = h.reactions;
       command_count = h.command_count;
       commands = all_of_none (IsCommand (length (species_of before)) 0 0 (walls_in (walls zero bounds ∷ before))) (commands_of before) (λ some. free (omega arith));
     }
@@ -331,6 +365,7 @@ walls_kept before dims (suc zero) bounds given used within none is h =
       z = h.z;
       settled = λ some. absurd (free some);
       placings = all_of_none (IsPlacing (length (species_of before)) 0 (walls_in (walls (suc zero) bounds ∷ before))) (placings_of before) (λ some. free (omega arith));
+      reactions = h.reactions;
       command_count = h.command_count;
       commands = all_of_none (IsCommand (length (species_of before)) 0 0 (walls_in (walls (suc zero) bounds ∷ before))) (commands_of before) (λ some. free (omega arith));
     }
@@ -348,6 +383,7 @@ walls_kept before dims (suc (suc zero)) bounds given used within none is h =
       z = is;
       settled = λ some. absurd (free some);
       placings = all_of_none (IsPlacing (length (species_of before)) 0 (walls_in (walls (suc (suc zero)) bounds ∷ before))) (placings_of before) (λ some. free (omega arith));
+      reactions = h.reactions;
       command_count = h.command_count;
       commands = all_of_none (IsCommand (length (species_of before)) 0 0 (walls_in (walls (suc (suc zero)) bounds ∷ before))) (commands_of before) (λ some. free (omega arith));
     }

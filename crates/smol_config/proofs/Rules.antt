@@ -29,12 +29,14 @@ use Rattle.smol_line.specs.SpeciesWord.{species_word_in}
 use Rattle.smol_line.specs.Words.{word_at}
 use Rattle.smol_line.proofs.Passing.{passed, valued, holds, not_yet, is_there}
 use Rattle.smol_line.proofs.Ranges.{count_in-low, count_in-high, decimal_in-within, axis_in-within, species_word_in-within}
+use Rattle.smol_reactions.specs.Statements.{binding_radius_said, product_placement_said, reaction_probability_said, reaction_said}
+use Rattle.smol_reactions.proofs.SoundSaid.{binding_radius_keeps, product_placement_keeps, reaction_keeps, reaction_probability_keeps}
 use Rattle.smol_config.specs.declared.cmd.act.Verb.{Verb}
 use Rattle.smol_config.specs.declared.cmd.act.Verb.TheVariants as verb
 use Rattle.smol_config.specs.declared.statement.Statement.{Statement}
 use Rattle.smol_config.specs.declared.statement.Statement.TheVariants as statement
 use Rattle.smol_config.specs.declared.walls.Bounds.{Bounds}
-use Rattle.smol_config.specs.Said.{Said, passed_over, axes, names, moves, starts, stops, steps, limits, seeds, walls, places, performs, say}
+use Rattle.smol_config.specs.Said.{Said, passed_over, axes, names, moves, starts, stops, steps, limits, seeds, walls, places, of_reactions, performs, say}
 use Rattle.smol_config.specs.Statement.{statement_of}
 use Rattle.smol_config.specs.Dim.{dims_of, needs_dim, dim_in}
 use Rattle.smol_config.specs.Species.{species_of, names_fault, further_words, species_in}
@@ -45,13 +47,14 @@ use Rattle.smol_config.specs.RandomSeed.{random_seed_in}
 use Rattle.smol_config.specs.Walls.{bounds_of, is_walled, are_walled, needs_walls}
 use Rattle.smol_config.specs.Boundaries.{line_letter, bounds_in, boundaries_in}
 use Rattle.smol_config.specs.Mol.{ticks_within, inside, coordinate_in, coordinate_at, coordinates_in, mol_in}
+use Rattle.smol_config.specs.Reactions.{reactions_said}
 use Rattle.smol_config.specs.Cmd.{commands_of, cmd_in}
 use Rattle.smol_config.specs.Cmd.When.{when_in}
 use Rattle.smol_config.specs.Cmd.Act.{verb_in, outlet_in, verb_act, act_in}
 use Rattle.smol_config.specs.Content.{walls_at, walls_of, walls_in}
 use Rattle.smol_config.specs.Reader.{statement_in, line_in}
 use Rattle.smol_config.specs.SoFar.{IsBounded, IsSettled, IsSoFar}
-use Rattle.smol_config.proofs.Kept.{passed_over_kept, axes_kept, names_kept, moves_kept, starts_kept, stops_kept, steps_kept, limits_kept, seeds_kept, walls_kept, places_kept, performs_kept, three, settled_walls}
+use Rattle.smol_config.proofs.Kept.{passed_over_kept, axes_kept, names_kept, moves_kept, starts_kept, stops_kept, steps_kept, limits_kept, seeds_kept, walls_kept, places_kept, of_reactions_kept, performs_kept, three, settled_walls}
 
 -- what is said is said by a value
 said_by : {T : Type 0} (wrap : T → Said) (rule : Result T Kind) (said : Said) → say wrap rule ≡ Ok said → (value : T) × (rule ≡ Ok value) × (wrap value ≡ said)
@@ -386,6 +389,18 @@ statement_keeps statement.Boundaries before line said is h =
     let by = said_by (λ given. walls given.0 given.1) (boundaries_in before line) said is in subst (λ (s : Said). IsSoFar (s ∷ before)) by.2 (boundaries_keep before line by.0 by.1 h)
 statement_keeps statement.Mol before line said is h =
     let by = said_by places (mol_in before line) said is in subst (λ (s : Said). IsSoFar (s ∷ before)) by.2 (mol_keeps before line by.0 by.1 h)
+statement_keeps statement.Reaction before line said is h =
+    let by = said_by of_reactions (reaction_said (species_of before) (reactions_said before) line) said is in
+    subst (λ (s : Said). IsSoFar (s ∷ before)) by.2 (of_reactions_kept before by.0 (reaction_keeps (dims_of before) (species_of before) (reactions_said before) line by.0 by.1 h.reactions) h)
+statement_keeps statement.BindingRadius before line said is h =
+    let by = said_by of_reactions (binding_radius_said (reactions_said before) line) said is in
+    subst (λ (s : Said). IsSoFar (s ∷ before)) by.2 (of_reactions_kept before by.0 (binding_radius_keeps (dims_of before) (length (species_of before)) (reactions_said before) line by.0 by.1 h.reactions) h)
+statement_keeps statement.ReactionProbability before line said is h =
+    let by = said_by of_reactions (reaction_probability_said (reactions_said before) line) said is in
+    subst (λ (s : Said). IsSoFar (s ∷ before)) by.2 (of_reactions_kept before by.0 (reaction_probability_keeps (dims_of before) (length (species_of before)) (reactions_said before) line by.0 by.1 h.reactions) h)
+statement_keeps statement.ProductPlacement before line said is h =
+    let by = said_by of_reactions (product_placement_said (dims_of before) (species_of before) (reactions_said before) line) said is in
+    subst (λ (s : Said). IsSoFar (s ∷ before)) by.2 (of_reactions_kept before by.0 (product_placement_keeps (dims_of before) (length (species_of before)) (species_of before) (reactions_said before) line by.0 by.1 h.reactions) h)
 statement_keeps statement.Cmd before line said is h =
     let by = said_by performs (cmd_in before line) said is in subst (λ (s : Said). IsSoFar (s ∷ before)) by.2 (cmd_keeps before line by.0 by.1 h)
 

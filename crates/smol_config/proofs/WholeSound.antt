@@ -14,12 +14,17 @@ use Rattle.smol_types.specs.declared.species.Species.{Species}
 use Rattle.smol_types.specs.declared.wall.Wall.{Wall}
 use Rattle.smol_types.specs.Commands.{IsCommand}
 use Rattle.smol_types.specs.Placings.{IsPlacing, placed_by}
+use Rattle.smol_types.specs.Reactions.{IsReaction}
 use Rattle.smol_types.specs.Sound.{IsSound}
 use Rattle.smol_types.specs.Steps.{last_step}
 use Rattle.smol_types.specs.Walls.{IsAxis, AreWalls}
 use Rattle.smol_line.specs.Checks.{unless, passing, there, with_value}
 use Rattle.smol_line.specs.Fault.{Fault, fault_at, at_line}
 use Rattle.smol_line.proofs.Passing.{passed, valued, holds, is_there}
+use Rattle.smol_reactions.specs.Content.{chances_of, reaction_made, reactions_of, schemes_of}
+use Rattle.smol_reactions.proofs.Chances.{shared_at, shares_fit}
+use Rattle.smol_reactions.proofs.Lists.{length-numbered}
+use Rattle.smol_reactions.proofs.SoundSaid.{nothing_sound}
 use Rattle.smol_config.specs.declared.walls.Bounds.{Bounds}
 use Rattle.smol_config.specs.declared.whole.Needed.{Needed}
 use Rattle.smol_config.specs.Said.{Said}
@@ -29,9 +34,10 @@ use Rattle.smol_config.specs.Times.{start_of, stop_of, step_of}
 use Rattle.smol_config.specs.MaxMol.{max_mol_of, limit_of}
 use Rattle.smol_config.specs.Walls.{bounds_of, is_walled}
 use Rattle.smol_config.specs.Mol.{placings_of}
+use Rattle.smol_config.specs.Reactions.{reactions_said}
 use Rattle.smol_config.specs.Cmd.{commands_of}
 use Rattle.smol_config.specs.Content.{content_of, species_from, started, walls_of}
-use Rattle.smol_config.specs.Whole.{bounded, has_difstep, has_few_steps, has_room, is_idle, needed_in, whole_in}
+use Rattle.smol_config.specs.Whole.{bounded, has_chances, has_difstep, has_few_steps, has_room, needed_in, whole_in}
 use Rattle.smol_config.specs.Reader.{config_from, config_of, line_in, lines_in, read_from}
 use Rattle.smol_config.specs.SoFar.{IsBounded, IsSoFar}
 use Rattle.smol_config.specs.Tables.{AreSmall}
@@ -73,20 +79,20 @@ needed_is before needed is =
     )
 
 -- nothing in what is accepted is too much
-bounded_is : (draft found : Draft) → bounded draft ≡ Ok found → (draft ≡ found) × (has_few_steps draft ≡ true) × (list_all has_difstep draft.species ≡ true) × (has_room draft ≡ true)
+bounded_is : (chances : List (Option ℕ)) (draft found : Draft) → bounded chances draft ≡ Ok found → (draft ≡ found) × (has_few_steps draft ≡ true) × (list_all has_difstep draft.species ≡ true) × (has_room draft ≡ true) × (has_chances chances draft ≡ true)
 unfolding bounded
-bounded_is draft found is =
+bounded_is chances draft found is =
     let few = unless (has_few_steps draft) kind.TooMany in
     let near = unless (list_all has_difstep draft.species) kind.OutOfRange in
+    let shared = unless (has_chances chances draft) kind.ProbabilitySum in
     let room = unless (has_room draft) kind.TooMany in
-    let idle = unless (is_idle draft) kind.NotInProfile in
     let all : Result Draft Kind = Ok draft in
-    let a = passed few (near ∷ room ∷ idle ∷ []) all found is in
-    let b = passed near (room ∷ idle ∷ []) all found a.1 in
-    let c = passed room (idle ∷ []) all found b.1 in
-    let d = passed idle [] all found c.1 in
+    let a = passed few (near ∷ shared ∷ room ∷ []) all found is in
+    let b = passed near (shared ∷ room ∷ []) all found a.1 in
+    let e = passed shared (room ∷ []) all found b.1 in
+    let c = passed room [] all found e.1 in
     let same : draft ≡ found = cc in
-    (same, holds (has_few_steps draft) kind.TooMany a.0, holds (list_all has_difstep draft.species) kind.OutOfRange b.0, holds (has_room draft) kind.TooMany c.0)
+    (same, holds (has_few_steps draft) kind.TooMany a.0, holds (list_all has_difstep draft.species) kind.OutOfRange b.0, holds (has_room draft) kind.TooMany c.0, holds (has_chances chances draft) kind.ProbabilitySum e.0)
 
 doubled_even : (x : ℤ) → unsigned_abs (pos 2 *ℤ x) % 2 ≡ 0
 doubled_even x = omega (arith, ints)
@@ -132,7 +138,7 @@ are_walls dims (Some x) (Some y) (Some z) least most has_x has_y has_z sound_x s
     let used = sound_z.in_use in
     ((walls_are_axis 0 (Some dims) x sound_x, (walls_are_axis 1 (Some dims) y sound_y, (walls_are_axis 2 (Some dims) z sound_z, tt))), omega arith)
 
-length-species_from : (time : ℤ) (before : List Said) (number : ℕ) (names : List (List ℕ)) → length (species_from time before number names) ≡ length names
+pub length-species_from : (time : ℤ) (before : List Said) (number : ℕ) (names : List (List ℕ)) → length (species_from time before number names) ≡ length names
 length-species_from time before number [] = refl
 length-species_from time before number (name ∷ names) = ap suc (length-species_from time before (number + 1) names)
 
@@ -156,9 +162,9 @@ near_all species near =
     (AllPass-from_list_all has_difstep species near)
 
 -- what lines without a fault say together is sound
-content_is_sound : (before : List Said) (needed : Needed) → IsSoFar before → needed_in before ≡ Ok needed → has_few_steps (content_of needed before) ≡ true → list_all has_difstep (content_of needed before).species ≡ true → has_room (content_of needed before) ≡ true → IsSound (content_of needed before)
+content_is_sound : (before : List Said) (needed : Needed) → IsSoFar before → needed_in before ≡ Ok needed → has_few_steps (content_of needed before) ≡ true → list_all has_difstep (content_of needed before).species ≡ true → has_room (content_of needed before) ≡ true → has_chances (chances_of (reactions_said before)) (content_of needed before) ≡ true → IsSound (content_of needed before)
 unfolding content_of
-content_is_sound before needed h is few near room =
+content_is_sound before needed h is few near room shared =
     let given = needed_is before needed is in
     let axes = rw given.0 at h.dims in
     let stop = rw given.4 at h.stop in
@@ -172,6 +178,7 @@ content_is_sound before needed h is few near room =
     let around = walls_of (bounds_of 0 before) (bounds_of 1 before) (bounds_of 2 before) in
     let Placed : ℕ → Type 0 = λ species. All (IsPlacing species 0 around) (placings_of before) in
     let Commanded : ℕ → Type 0 = λ species. All (IsCommand species 0 0 around) (commands_of before) in
+    let Reacting : ℕ → Type 0 = λ species. All (IsReaction needed.dims species) (reactions_of (reactions_said before)) in
     let few_species = h.species in record {
       dims_above = axes.0;
       dims_below = axes.1;
@@ -184,9 +191,9 @@ content_is_sound before needed h is few near room =
       panels = λ k d within. absurd (omega arith);
       compartment_count = omega arith;
       compartments = λ k d within. absurd (omega arith);
-      reaction_count = omega arith;
-      reactions = λ k d within. absurd (omega arith);
-      shares = λ species within. omega arith;
+      reaction_count = subst (λ (n : ℕ). n ≤ 1024) (sym (length-numbered (reaction_made (reactions_said before)) 0 (schemes_of (reactions_said before)))) h.reactions.count;
+      reactions = subst Reacting (sym count) (h.reactions.all needed.dims (subst (λ (dims : Option ℕ). IfSome dims (λ (given : ℕ). given ≡ needed.dims)) (sym given.0) refl));
+      shares = λ species within. shares_fit species (reactions_said before) (shared_at (length (content_of needed before).species) species (reactions_of (reactions_said before)) (chances_of (reactions_said before)) shared within);
       placings = subst Placed (sym count) h.placings;
       command_count = h.command_count;
       commands = subst Commanded (sym count) h.commands;
@@ -205,9 +212,10 @@ content_is_sound before needed h is few near room =
 pub whole_is_sound : (before : List Said) (draft : Draft) → IsSoFar before → whole_in before ≡ Ok draft → IsSound draft
 unfolding whole_in
 whole_is_sound before draft h is =
-    let needed = valued (needed_in before) (λ needed. bounded (content_of needed before)) draft (in_line 0 (with_value (needed_in before) (λ needed. bounded (content_of needed before))) draft is) in
-    let by = bounded_is (content_of needed.0 before) draft needed.2 in
-    subst IsSound by.0 (content_is_sound before needed.0 h needed.1 by.1 by.2 by.3)
+    let chances = chances_of (reactions_said before) in
+    let needed = valued (needed_in before) (λ needed. bounded chances (content_of needed before)) draft (in_line 0 (with_value (needed_in before) (λ needed. bounded chances (content_of needed before))) draft is) in
+    let by = bounded_is chances (content_of needed.0 before) draft needed.2 in
+    subst IsSound by.0 (content_is_sound before needed.0 h needed.1 by.1 by.2 by.3 by.4)
 
 -- so far nothing is said
 pub nothing_yet : IsSoFar []
@@ -223,6 +231,7 @@ nothing_yet = record {
   z = tt;
   settled = λ some. absurd (omega arith);
   placings = λ k d within. absurd (omega arith);
+  reactions = nothing_sound None 0;
   command_count = omega arith;
   commands = λ k d within. absurd (omega arith);
 }
@@ -247,7 +256,7 @@ accepted_is_sound text draft is =
     whole_is_sound all.0 draft (lines_keep [] lines.0 all.0 all.1 nothing_yet) all.2
 
 -- how the tests of the whole file end
-pub whole_ok : (before : List Said) (needed : Needed) (draft : Draft) → needed_in before ≡ Ok needed → bounded (content_of needed before) ≡ Ok draft → whole_in before ≡ Ok draft
+pub whole_ok : (before : List Said) (needed : Needed) (draft : Draft) → needed_in before ≡ Ok needed → bounded (chances_of (reactions_said before)) (content_of needed before) ≡ Ok draft → whole_in before ≡ Ok draft
 unfolding whole_in
 whole_ok before needed draft is passes = rw (is, passes) refl
 
@@ -255,7 +264,7 @@ pub whole_missing : (before : List Said) (why : Kind) → needed_in before ≡ E
 unfolding whole_in
 whole_missing before why is = rw is refl
 
-pub whole_excess : (before : List Said) (needed : Needed) (why : Kind) → needed_in before ≡ Ok needed → bounded (content_of needed before) ≡ Err why → whole_in before ≡ Err (fault_at 0 why)
+pub whole_excess : (before : List Said) (needed : Needed) (why : Kind) → needed_in before ≡ Ok needed → bounded (chances_of (reactions_said before)) (content_of needed before) ≡ Err why → whole_in before ≡ Err (fault_at 0 why)
 unfolding whole_in
 whole_excess before needed why is fails = rw (is, fails) refl
 

@@ -3,6 +3,7 @@ use Rattle.std.specs.Prelude.{ℕ, ◌+◌, ℤ, ◌*ℤ◌, pos, false, true, L
 use Rattle.smol_types.specs.declared.draft.Draft.{Draft}
 use Rattle.smol_types.specs.declared.species.Species.{Species as TheSpecies}
 use Rattle.smol_types.specs.declared.wall.Wall.{Wall}
+use Rattle.smol_reactions.specs.Content.{reactions_of}
 use Rattle.smol_config.specs.declared.walls.Bounds.{Bounds}
 use Rattle.smol_config.specs.declared.whole.Needed.{Needed}
 use Rattle.smol_config.specs.Said.{Said}
@@ -13,6 +14,7 @@ use Rattle.smol_config.specs.MaxMol.{max_mol_of, limit_of}
 use Rattle.smol_config.specs.RandomSeed.{seed_of}
 use Rattle.smol_config.specs.Walls.{bounds_of}
 use Rattle.smol_config.specs.Mol.{placings_of}
+use Rattle.smol_config.specs.Reactions.{reactions_said}
 use Rattle.smol_config.specs.Cmd.{commands_of}
 
 -- the low and the high wall of an axis that has some. A wall of m micros stands at 2m ticks
@@ -50,7 +52,7 @@ content_of needed before = record {
   surfaces = [];
   panels = [];
   compartments = [];
-  reactions = [];
+  reactions = reactions_of (reactions_said before);
   placings = placings_of before;
   commands = commands_of before;
   outputs = [];

@@ -10,6 +10,7 @@ pub mod Walls
 pub mod Boundaries
 pub mod Mol
 pub mod Cmd
+pub mod Reactions
 pub mod Content
 pub mod Whole
 pub mod Reader

@@ -7,18 +7,20 @@ use Rattle.smol_types.specs.declared.fault.Kind.TheVariants as kind
 use Rattle.smol_line.specs.Fault.{Fault, fault_at, at_line}
 use Rattle.smol_line.specs.Words.{word_at}
 use Rattle.smol_line.specs.Checks.{with_value}
+use Rattle.smol_reactions.specs.Statements.{binding_radius_said, product_placement_said, reaction_probability_said, reaction_said}
 use Rattle.smol_config.specs.declared.statement.Statement.{Statement}
-use Rattle.smol_config.specs.declared.statement.Statement.TheVariants.{PassedOver, NotInProfile, Unknown, Dim, Species, Difc, Difstep, TimeStart, TimeStop, TimeStep, MaxMol, RandomSeed, Boundaries, Mol, Cmd}
+use Rattle.smol_config.specs.declared.statement.Statement.TheVariants.{PassedOver, NotInProfile, Unknown, Dim, Species, Difc, Difstep, TimeStart, TimeStop, TimeStep, MaxMol, RandomSeed, Boundaries, Mol, Reaction, BindingRadius, ReactionProbability, ProductPlacement, Cmd}
 use Rattle.smol_config.specs.Statement.{statement_of}
-use Rattle.smol_config.specs.Said.{Said, passed_over, axes, names, moves, starts, stops, steps, limits, seeds, walls, places, performs, say}
-use Rattle.smol_config.specs.Dim.{dim_in}
-use Rattle.smol_config.specs.Species.{species_in}
+use Rattle.smol_config.specs.Said.{Said, passed_over, axes, names, moves, starts, stops, steps, limits, seeds, walls, places, of_reactions, performs, say}
+use Rattle.smol_config.specs.Dim.{dim_in, dims_of}
+use Rattle.smol_config.specs.Species.{species_in, species_of}
 use Rattle.smol_config.specs.Motion.{difc_in, difstep_in}
 use Rattle.smol_config.specs.Times.{start_of, stop_of, time_in, time_step_in}
 use Rattle.smol_config.specs.MaxMol.{max_mol_in}
 use Rattle.smol_config.specs.RandomSeed.{random_seed_in}
 use Rattle.smol_config.specs.Boundaries.{boundaries_in}
 use Rattle.smol_config.specs.Mol.{mol_in}
+use Rattle.smol_config.specs.Reactions.{reactions_said}
 use Rattle.smol_config.specs.Cmd.{cmd_in}
 use Rattle.smol_config.specs.Whole.{whole_in}
 
@@ -38,6 +40,10 @@ statement_in MaxMol before line = say limits (max_mol_in before line)
 statement_in RandomSeed before line = say seeds (random_seed_in before line)
 statement_in Boundaries before line = say (λ given. walls given.0 given.1) (boundaries_in before line)
 statement_in Mol before line = say places (mol_in before line)
+statement_in Reaction before line = say of_reactions (reaction_said (species_of before) (reactions_said before) line)
+statement_in BindingRadius before line = say of_reactions (binding_radius_said (reactions_said before) line)
+statement_in ReactionProbability before line = say of_reactions (reaction_probability_said (reactions_said before) line)
+statement_in ProductPlacement before line = say of_reactions (product_placement_said (dims_of before) (species_of before) (reactions_said before) line)
 statement_in Cmd before line = say performs (cmd_in before line)
 
 -- what a line says behind these, or its fault

@@ -4,6 +4,7 @@ use Rattle.smol_types.specs.declared.fault.Kind.{Kind}
 use Rattle.smol_types.specs.declared.placing.Placing.{Placing}
 use Rattle.smol_types.specs.declared.command.Command.{Command}
 use Rattle.smol_line.specs.declared.species_word.Chosen.{Chosen}
+use Rattle.smol_reactions.specs.ReactionSaid.{ReactionSaid}
 use Rattle.smol_config.specs.declared.motion.Motion.{Motion}
 use Rattle.smol_config.specs.declared.walls.Bounds.{Bounds}
 
@@ -28,6 +29,8 @@ pub data Said : Type 0 where
   walls : ℕ → Bounds → Said
   -- these molecules are placed
   places : Placing → Said
+  -- this of a reaction
+  of_reactions : ReactionSaid → Said
   -- this command is performed
   performs : Command → Said
 

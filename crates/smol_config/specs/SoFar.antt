@@ -4,6 +4,7 @@ use Rattle.smol_types.specs.Limits.{most_species, most_molecules, most_commands,
 use Rattle.smol_types.specs.Placings.{IsPlacing}
 use Rattle.smol_types.specs.Commands.{IsCommand}
 use Rattle.smol_line.specs.Length.{most_micros}
+use Rattle.smol_reactions.specs.Sound.{AreReactions}
 use Rattle.smol_config.specs.declared.walls.Bounds.{Bounds}
 use Rattle.smol_config.specs.Said.{Said}
 use Rattle.smol_config.specs.Dim.{most_axes, dims_of}
@@ -12,6 +13,7 @@ use Rattle.smol_config.specs.Times.{start_of, stop_of, step_of}
 use Rattle.smol_config.specs.MaxMol.{max_mol_of}
 use Rattle.smol_config.specs.Walls.{bounds_of, are_walled}
 use Rattle.smol_config.specs.Mol.{placings_of}
+use Rattle.smol_config.specs.Reactions.{reactions_said}
 use Rattle.smol_config.specs.Cmd.{commands_of}
 use Rattle.smol_config.specs.Content.{walls_in}
 
@@ -39,5 +41,6 @@ pub record IsSoFar (before : List Said) : Type 0 where
   -- what stands between walls is said behind them
   pub settled : 0 < length (placings_of before) + length (commands_of before) → IsSettled before
   pub placings : All (IsPlacing (length (species_of before)) 0 (walls_in before)) (placings_of before)
+  pub reactions : AreReactions (dims_of before) (length (species_of before)) (reactions_said before)
   pub command_count : length (commands_of before) ≤ most_commands
   pub commands : All (IsCommand (length (species_of before)) 0 0 (walls_in before)) (commands_of before)

@@ -3,7 +3,7 @@ use Rattle.std.specs.Prelude.{ℕ, List, [], ◌∷◌, if◌then◌else◌, cod
 use Rattle.std.specs.List.{list_any}
 use Rattle.std.specs.Str.{bytes_eq}
 use Rattle.smol_config.specs.declared.statement.Statement.{Statement}
-use Rattle.smol_config.specs.declared.statement.Statement.TheVariants.{PassedOver, NotInProfile, Unknown, Dim, Species, Difc, Difstep, TimeStart, TimeStop, TimeStep, MaxMol, RandomSeed, Boundaries, Mol, Cmd}
+use Rattle.smol_config.specs.declared.statement.Statement.TheVariants.{PassedOver, NotInProfile, Unknown, Dim, Species, Difc, Difstep, TimeStart, TimeStop, TimeStep, MaxMol, RandomSeed, Boundaries, Mol, Reaction, BindingRadius, ReactionProbability, ProductPlacement, Cmd}
 
 -- the words of the statements that are read
 abbrev pub built : List (List ℕ × Statement)
@@ -19,6 +19,10 @@ built =
     ∷ (codes "random_seed", RandomSeed)
     ∷ (codes "boundaries", Boundaries)
     ∷ (codes "mol", Mol)
+    ∷ (codes "reaction", Reaction)
+    ∷ (codes "binding_radius", BindingRadius)
+    ∷ (codes "reaction_probability", ReactionProbability)
+    ∷ (codes "product_placement", ProductPlacement)
     ∷ (codes "cmd", Cmd)
     ∷ []
 

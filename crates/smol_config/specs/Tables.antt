@@ -6,6 +6,7 @@ use Rattle.smol_types.specs.declared.species.Species.{Species as TheSpecies}
 use Rattle.smol_line.specs.Length.{most_micros}
 use Rattle.smol_line.specs.declared.refusal.Refusal.{Refusal}
 use Rattle.smol_line.specs.declared.refusal.Refusal.TheVariants.{At, OutOfMemory}
+use Rattle.smol_reactions.specs.Table.{Holds as HoldsReactions, IsKept}
 use Rattle.smol_config.specs.declared.motion.Motion.{Motion}
 use Rattle.smol_config.specs.declared.tables.Tables.{Tables}
 use Rattle.smol_config.specs.declared.walls.Bounds.{Bounds}
@@ -18,6 +19,7 @@ use Rattle.smol_config.specs.MaxMol.{max_mol_of}
 use Rattle.smol_config.specs.RandomSeed.{seed_of}
 use Rattle.smol_config.specs.Walls.{bounds_of}
 use Rattle.smol_config.specs.Mol.{placings_of}
+use Rattle.smol_config.specs.Reactions.{reactions_said}
 use Rattle.smol_config.specs.Cmd.{commands_of}
 use Rattle.smol_config.specs.SoFar.{IsSoFar}
 
@@ -40,6 +42,8 @@ pub record Holds (tables : Tables) (before : List Said) : Type 0 where
   pub axes : length tables.bounds ≡ 3
   pub bounds : AreBounds tables.bounds before
   pub placings : tables.placings ≡ placings_of before
+  pub reactions : HoldsReactions tables.reactions (reactions_said before)
+  pub kept : IsKept tables.reactions
   pub commands : tables.commands ≡ commands_of before
 
 -- how the reading of a line ends: it is taken and the tables hold what it says too, or its fault is told, or memory ran out

@@ -1,24 +1,23 @@
 -- The tests of the whole file, after its last line: what is missing, and what is too much.
-use Rattle.std.specs.Prelude.{ℕ, ◌==◌, ◌||◌, Bool, false, true, nat_le, sum_by, List, [], ◌∷◌, Option, Result, Ok, Err}
+use Rattle.std.specs.Prelude.{ℕ, Bool, nat_le, sum_by, List, [], ◌∷◌, length, Option, Result, Ok, Err}
 use Rattle.std.specs.List.{list_all}
 use Rattle.smol_types.specs.declared.fault.Kind.{Kind}
-use Rattle.smol_types.specs.declared.fault.Kind.TheVariants.{Missing, OutOfRange, TooMany, NotInProfile}
+use Rattle.smol_types.specs.declared.fault.Kind.TheVariants.{Missing, OutOfRange, ProbabilitySum, TooMany}
 use Rattle.smol_types.specs.declared.fault.Need.TheVariants.{Dim, Boundaries, TimeStop, TimeStep}
 use Rattle.smol_types.specs.declared.draft.Draft.{Draft}
 use Rattle.smol_types.specs.declared.species.Species.{Species}
-use Rattle.smol_types.specs.declared.wall.Wall.{Wall}
-use Rattle.smol_types.specs.declared.wall.Letter.{Letter}
-use Rattle.smol_types.specs.declared.wall.Letter.TheVariants.{R, P, A, T}
 use Rattle.smol_types.specs.Limits.{longest, most_steps}
 use Rattle.smol_types.specs.Placings.{placed_by}
 use Rattle.smol_types.specs.Steps.{last_step}
 use Rattle.smol_line.specs.Fault.{Fault, at_line}
 use Rattle.smol_line.specs.Checks.{unless, passing, with_value, there}
+use Rattle.smol_reactions.specs.Content.{are_shared, chances_of}
 use Rattle.smol_config.specs.declared.whole.Needed.{Needed}
 use Rattle.smol_config.specs.Said.{Said}
 use Rattle.smol_config.specs.Dim.{dims_of}
 use Rattle.smol_config.specs.Times.{stop_of, step_of}
 use Rattle.smol_config.specs.Walls.{bounds_of, is_walled}
+use Rattle.smol_config.specs.Reactions.{reactions_said}
 use Rattle.smol_config.specs.Content.{content_of}
 
 -- what a file can't do without: the number of axes, their walls, the time at which the run stops, and that of a step
@@ -42,38 +41,25 @@ has_few_steps draft = nat_le (last_step draft.start draft.stop draft.step) most_
 abbrev pub has_difstep : Species → Bool
 has_difstep species = nat_le species.step longest
 
+-- the probabilities of a species' first-order reactions, which were given in billionths, are no more than 1 together
+abbrev pub has_chances : List (Option ℕ) → Draft → Bool
+has_chances chances draft = are_shared (length draft.species) draft.reactions chances
+
 -- no more molecules are placed than there may be
 abbrev pub has_room : Draft → Bool
 has_room draft = nat_le (sum_by placed_by draft.placings) draft.max_mol
 
-abbrev pub stands_still : Species → Bool
-stands_still species = species.step == 0
-
--- walls of this letter let molecules through
-abbrev pub lets_through : Letter → Bool
-lets_through R = false
-lets_through P = false
-lets_through A = false
-lets_through T = true
-
-abbrev pub is_open : Wall → Bool
-is_open wall = lets_through wall.letter
-
--- no wall has anything to do: no species moves, or the walls let molecules through
-abbrev pub is_idle : Draft → Bool
-is_idle draft = list_all stands_still draft.species || list_all is_open draft.walls
-
--- what the lines say together, unless something in it is too much
-unfoldable pub bounded : Draft → Result Draft Kind
-bounded draft =
+-- what the lines say together, with the probabilities that reactions were given, unless something in it is too much
+unfoldable pub bounded : List (Option ℕ) → Draft → Result Draft Kind
+bounded chances draft =
     passing
     (unless (has_few_steps draft) TooMany
     ∷ unless (list_all has_difstep draft.species) OutOfRange
+    ∷ unless (has_chances chances draft) ProbabilitySum
     ∷ unless (has_room draft) TooMany
-    ∷ unless (is_idle draft) NotInProfile
     ∷ [])
     (Ok draft)
 
 -- what a file says, or the fault of the whole
 unfoldable pub whole_in : List Said → Result Draft Fault
-whole_in before = at_line 0 (with_value (needed_in before) (λ needed. bounded (content_of needed before)))
+whole_in before = at_line 0 (with_value (needed_in before) (λ needed. bounded (chances_of (reactions_said before)) (content_of needed before)))

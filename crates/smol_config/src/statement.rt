@@ -92,11 +92,15 @@ pub enum Statement {
     RandomSeed,
     Boundaries,
     Mol,
+    Reaction,
+    BindingRadius,
+    ReactionProbability,
+    ProductPlacement,
     Cmd,
 }
 
 /// The first words of the statements that are read.
-const BUILT: [(&str, Statement); 12] = [
+const BUILT: [(&str, Statement); 16] = [
     ("dim", Statement::Dim),
     ("species", Statement::Species),
     ("difc", Statement::Difc),
@@ -108,6 +112,10 @@ const BUILT: [(&str, Statement); 12] = [
     ("random_seed", Statement::RandomSeed),
     ("boundaries", Statement::Boundaries),
     ("mol", Statement::Mol),
+    ("reaction", Statement::Reaction),
+    ("binding_radius", Statement::BindingRadius),
+    ("reaction_probability", Statement::ReactionProbability),
+    ("product_placement", Statement::ProductPlacement),
     ("cmd", Statement::Cmd),
 ];
 

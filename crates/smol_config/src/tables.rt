@@ -8,6 +8,7 @@ use crate::statement::Statement;
 use crate::walls::Bounds;
 use crate::{boundaries, cmd, dim, max_mol, mol, motion, random_seed, species, times};
 use smol_line::{Refusal, word_at};
+use smol_reactions::Reactions;
 use smol_text::StatedLine;
 use smol_types::{Command, Items, Kind, Placing};
 use std::alloc::Global;
@@ -24,12 +25,14 @@ pub struct Tables {
     pub seed: Option<u64>,
     pub bounds: [Option<Bounds>; 3],
     pub placings: Items<Placing>,
+    pub reactions: Reactions,
     pub commands: Items<Command>,
 }
 
 impl Tables {
     ghost use Rattle.smol_config.specs.Reader.{line_in, statement_in};
     ghost use Rattle.smol_config.specs.Tables.{Holds, Reads};
+    ghost use Rattle.smol_reactions.specs.Table.{IsKept};
 
     /// Nothing given.
     pub fn new(alloc: Global) -> Tables
@@ -45,6 +48,7 @@ impl Tables {
             seed: None,
             bounds: [None, None, None],
             placings: Items::new(alloc),
+            reactions: Reactions::new(alloc),
             commands: Items::new(alloc),
         }
     }
@@ -133,6 +137,44 @@ impl Tables {
         Ok(())
     }
 
+    fn read_reaction(&mut self, alloc: Global, line: &StatedLine<'_>) -> Result<(), Refusal>
+        requires species { length self.old.species.names ≤ most_species }
+        requires kept { IsKept self.old.reactions }
+        ensures { Reads (statement_in statement.Reaction) line.now self.old self.new result }
+    {
+        let species = &self.species;
+        self.reactions.read_reaction(alloc, &species.names, line)
+    }
+
+    fn read_binding_radius(&mut self, line: &StatedLine<'_>) -> Result<(), Refusal>
+        requires { IsKept self.old.reactions }
+        ensures { Reads (statement_in statement.BindingRadius) line.now self.old self.new result }
+    {
+        self.reactions.read_binding_radius(line)
+    }
+
+    fn read_reaction_probability(&mut self, line: &StatedLine<'_>) -> Result<(), Refusal>
+        requires { IsKept self.old.reactions }
+        ensures { Reads (statement_in statement.ReactionProbability) line.now self.old self.new result }
+    {
+        self.reactions.read_reaction_probability(line)
+    }
+
+    fn read_product_placement(
+        &mut self,
+        alloc: Global,
+        line: &StatedLine<'_>,
+    ) -> Result<(), Refusal>
+        requires species { length self.old.species.names ≤ most_species }
+        requires kept { IsKept self.old.reactions }
+        ensures { Reads (statement_in statement.ProductPlacement) line.now self.old self.new result }
+    {
+        let dims = self.dims;
+        let species = &self.species;
+        self.reactions
+            .read_product_placement(alloc, dims, &species.names, line)
+    }
+
     fn read_cmd(&mut self, alloc: Global, line: &StatedLine<'_>) -> Result<(), Refusal>
         ensures { Reads (statement_in statement.Cmd) line.now self.old self.new result }
     {
@@ -149,7 +191,8 @@ impl Tables {
         statement: Statement,
         line: &StatedLine<'_>,
     ) -> Result<(), Refusal>
-        requires { length self.old.species.names ≤ most_species }
+        requires species { length self.old.species.names ≤ most_species }
+        requires kept { IsKept self.old.reactions }
         ensures { Reads (statement_in statement) line.now self.old self.new result }
     {
         match statement {
@@ -167,6 +210,10 @@ impl Tables {
             Statement::RandomSeed => self.read_random_seed(line),
             Statement::Boundaries => self.read_boundaries(line),
             Statement::Mol => self.read_mol(line),
+            Statement::Reaction => self.read_reaction(alloc, line),
+            Statement::BindingRadius => self.read_binding_radius(line),
+            Statement::ReactionProbability => self.read_reaction_probability(line),
+            Statement::ProductPlacement => self.read_product_placement(alloc, line),
             Statement::Cmd => self.read_cmd(alloc, line),
         }
     }
@@ -174,7 +221,8 @@ impl Tables {
     /// Reads a line behind those read so far.
     #[tactic(auto, unfolding(crate::specs::Reader::line_in))]
     pub fn read(&mut self, alloc: Global, line: &StatedLine<'_>) -> Result<(), Refusal>
-        requires { length self.old.species.names ≤ most_species }
+        requires species { length self.old.species.names ≤ most_species }
+        requires kept { IsKept self.old.reactions }
         ensures { Reads line_in line.now self.old self.new result }
     {
         self.read_statement(alloc, Statement::of(word_at(line, 0)), line)

@@ -138,7 +138,7 @@ const COMMANDS_BEHIND_BASE: [(&str, u32, Kind); 10] = [
 ];
 
 // The same of lines about motion.
-const MOTIONS_BEHIND_BASE: [(&str, u32, Kind); 27] = [
+const MOTIONS_BEHIND_BASE: [(&str, u32, Kind); 21] = [
     ("difc", 9, Kind::WrongWordCount),
     ("difc A", 9, Kind::WrongWordCount),
     ("difc A 1 1", 9, Kind::WrongWordCount),
@@ -165,16 +165,10 @@ const MOTIONS_BEHIND_BASE: [(&str, u32, Kind); 27] = [
         Kind::OutOfRange,
     ),
     ("mol 100001 A 50 50 50\ndifstep A 1", 0, Kind::TooMany),
-    ("difc A 500000.001", 0, Kind::NotInProfile),
-    ("difc A(all) 1e-9", 0, Kind::NotInProfile),
-    ("difstep A 1000", 0, Kind::NotInProfile),
-    ("difstep all 1e-6", 0, Kind::NotInProfile),
-    ("species B\ndifstep B 1", 0, Kind::NotInProfile),
-    ("difstep A 0\ndifstep A(soln) 1", 0, Kind::NotInProfile),
 ];
 
 // Whole texts, and the line and the kind of their fault.
-const TEXTS: [(&str, u32, Kind); 53] = [
+const TEXTS: [(&str, u32, Kind); 51] = [
     // Bytes and comments.
     ("bogus\n\ndim 3\0", 3, Kind::BadByte),
     ("graphics \u{7f}\n/*", 1, Kind::BadByte),
@@ -268,23 +262,17 @@ const TEXTS: [(&str, u32, Kind); 53] = [
         0,
         Kind::TooMany,
     ),
-    // Species that move, and walls that stop them.
-    (
-        "dim 1\nspecies A\nboundaries x 0 1 r\ntime_stop 0\ntime_step 1e-9\ndifc A 0.0005",
-        0,
-        Kind::NotInProfile,
-    ),
-    (
-        "dim 2\nspecies A\nboundaries x 0 1\nboundaries y 0 1 p\ntime_stop 0\ntime_step 1\ndifstep A 1",
-        0,
-        Kind::NotInProfile,
-    ),
 ];
 
 // Lines that follow the eight of BASE and have no fault.
-const ACCEPTED_BEHIND_BASE: [&str; 6] = [
+const ACCEPTED_BEHIND_BASE: [&str; 11] = [
     "",
     "difstep A 1\ndifstep A 0",
+    "difstep all 1e-6",
+    "species B\ndifstep B 1",
+    "difstep A 0\ndifstep A(soln) 1000",
+    "difc A 500000.001",
+    "difc A(all) 1e-9",
     "difc A 1000000000\ndifc A 0",
     "difc all 1000000000\ndifstep A(all) 0",
     "difstep A 1000\ndifc A(solution) 0\nspecies B",

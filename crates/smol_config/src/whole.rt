@@ -1,25 +1,26 @@
 //! The tests of the whole file, and what its lines make together.
-ghost use Rattle.std.specs.Prelude.{◌≡◌, ◌≤◌, ◌<ℤ◌, ◌++◌, true, false, pos, List, Ok, Err, None, IfOk, IfSome, OnOk, MatchResult, nat_le, sum_by, slice_index_or, unsigned_abs};
+ghost use Rattle.std.specs.Prelude.{◌≡◌, ◌≤◌, ◌<ℤ◌, ◌++◌, true, false, pos, ℕ, List, Option, length, Ok, Err, None, IfOk, IfSome, OnOk, MatchResult, nat_le, sum_by, slice_index_or, unsigned_abs};
 ghost use Rattle.std.specs.List.{list_all};
 ghost use Rattle.smol_types.specs.declared.fault.Kind.{Kind as TheKind};
-ghost use Rattle.smol_types.specs.Limits.{latest};
+ghost use Rattle.smol_types.specs.Limits.{latest, most_species};
 ghost use Rattle.smol_types.specs.Placings.{placed_by};
 ghost use Rattle.smol_line.specs.declared.refusal.Refusal.TheVariants.{At};
 ghost use Rattle.smol_line.specs.Fault.{fault_at};
+ghost use Rattle.smol_reactions.specs.Content.{chances_of};
+ghost use Rattle.smol_reactions.specs.Table.{IsKept};
+ghost use Rattle.smol_config.specs.Reactions.{reactions_said};
 ghost use Rattle.smol_config.specs.Said.{Said};
 ghost use Rattle.smol_config.specs.Motion.{difstep_of};
 ghost use Rattle.smol_config.specs.Content.{content_of, walls_at, walls_of};
 ghost use Rattle.smol_config.specs.Tables.{AreSmall, Holds, IsReached, species_made};
-ghost use Rattle.smol_config.specs.Whole.{bounded, has_difstep, has_few_steps, is_idle, is_open, lets_through, needed_in, stands_still, whole_in};
+ghost use Rattle.smol_config.specs.Whole.{bounded, has_chances, has_difstep, has_few_steps, needed_in, whole_in};
 
 use crate::motion::{MOST_DIFSTEP, Motion, difstep_of};
 use crate::species_table::SpeciesTable;
 use crate::tables::Tables;
 use crate::walls::{Bounds, is_walled};
 use smol_line::{Refusal, unless};
-use smol_types::{
-    Config, Draft, Items, Kind, Letter, Name, Need, Placing, Species, Wall, last_step,
-};
+use smol_types::{Config, Draft, Items, Kind, Name, Need, Placing, Species, Wall, last_step};
 use std::alloc::{AllocError, Global};
 
 /// How many steps a run may make.
@@ -150,34 +151,6 @@ fn are_few(placings: &[Placing], most: u32) -> bool
     true
 }
 
-// Whether walls of this letter let molecules through.
-fn lets_through(letter: Letter) -> bool
-    ensures { result ≡ lets_through letter }
-{
-    letter == Letter::T
-}
-
-// Whether no species moves.
-fn stand_still(species: &[Species]) -> bool
-    ensures { result ≡ list_all stands_still species.now }
-{
-    species.iter().all(|species| species.step == 0)
-}
-
-// Whether all walls let molecules through.
-fn are_open(walls: &[Wall]) -> bool
-    ensures { result ≡ list_all is_open walls.now }
-{
-    walls.iter().all(|wall| lets_through(wall.letter))
-}
-
-// Whether no wall has anything to do: no species moves, or the walls let molecules through.
-fn is_idle(draft: &Draft) -> bool
-    ensures { result ≡ is_idle draft.now }
-{
-    stand_still(draft.species.as_slice()) || are_open(draft.walls.as_slice())
-}
-
 // What the lines make together, as long as the steps are few and the difsteps small.
 fn draft_of(alloc: Global, needed: Needed, tables: Tables) -> Result<Draft, Refusal>
     requires start { IfSome tables.start (λ time. unsigned_abs time ≤ latest) }
@@ -187,16 +160,25 @@ fn draft_of(alloc: Global, needed: Needed, tables: Tables) -> Result<Draft, Refu
     requires x { IfSome (slice_index_or tables.bounds 0 None) AreSmall }
     requires y { IfSome (slice_index_or tables.bounds 1 None) AreSmall }
     requires z { IfSome (slice_index_or tables.bounds 2 None) AreSmall }
+    requires species { length tables.species.names ≤ most_species }
+    requires kept { IsKept tables.reactions }
     ensures content { IfOk result (λ draft. (before : List Said) → Holds tables before → draft ≡ content_of needed before) }
     ensures few { IfOk result (λ draft. has_few_steps draft ≡ true) }
     ensures near { IfOk result (λ draft. list_all has_difstep draft.species ≡ true) }
-    ensures refused { (kind : TheKind) (before : List Said) → result ≡ Err (At kind) → Holds tables before → bounded (content_of needed before) ≡ Err kind }
+    ensures shared { IfOk result (λ draft. has_chances tables.reactions.chances.items draft ≡ true) }
+    ensures refused { (kind : TheKind) (before : List Said) → result ≡ Err (At kind) → Holds tables before
+        → bounded (chances_of (reactions_said before)) (content_of needed before) ≡ Err kind }
 {
     let start = tables.start.unwrap_or(0);
     let few = last_step(start, needed.stop, needed.step) <= MOST_STEPS;
     unless(few, Kind::TooMany)?;
     let species = make_species(alloc, &tables.species, needed.step)?;
+    let shared = tables
+        .reactions
+        .are_shared(tables.species.names.len() as u16);
+    unless(shared, Kind::ProbabilitySum)?;
     let walls = walls_of(alloc, &tables.bounds)?;
+    let reactions = tables.reactions.into_list();
     Ok(Draft {
         dims: needed.dims,
         species,
@@ -204,7 +186,7 @@ fn draft_of(alloc: Global, needed: Needed, tables: Tables) -> Result<Draft, Refu
         surfaces: Items::new(alloc),
         panels: Items::new(alloc),
         compartments: Items::new(alloc),
-        reactions: Items::new(alloc),
+        reactions,
         placings: tables.placings,
         commands: tables.commands,
         outputs: Items::new(alloc),
@@ -216,18 +198,17 @@ fn draft_of(alloc: Global, needed: Needed, tables: Tables) -> Result<Draft, Refu
     })
 }
 
-// What the lines make together, unless too many molecules are placed or walls have something to do.
+// What the lines make together, unless too many molecules are placed.
 #[tactic(auto, unfolding(crate::specs::Whole::bounded))]
 fn bounded(draft: Draft) -> Result<Draft, Kind>
     requires few { has_few_steps draft ≡ true }
     requires near { list_all has_difstep draft.species ≡ true }
-    ensures { result ≡ bounded draft }
+    ensures { (chances : List (Option ℕ)) → has_chances chances draft ≡ true → result ≡ bounded chances draft }
 {
     unless(
         are_few(draft.placings.as_slice(), draft.max_mol),
         Kind::TooMany,
     )?;
-    unless(is_idle(&draft), Kind::NotInProfile)?;
     Ok(draft)
 }
 

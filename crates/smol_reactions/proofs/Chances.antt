@@ -1,5 +1,7 @@
 -- How likely reactions of one species are together.
-use Rattle.std.proofs.Common.{◌≡◌, ℕ, ◌+◌, ◌*◌, ◌/◌, ◌≤◌, Bool, true, false, List, [], ◌∷◌, length, Option, None, Some, sum_by, if◌then◌else◌, unwrap_or, refl, sym, ap, ◌∙◌, arith, subst}
+use Rattle.std.proofs.Common.{◌≡◌, ◌&&◌, inl, inr, zero, suc, nat_le, ◌<◌, subst, ℕ, ◌+◌, ◌*◌, ◌/◌, ◌≤◌, Bool, true, false, List, [], ◌∷◌, length, Option, None, Some, sum_by, if◌then◌else◌, unwrap_or, refl, arith}
+use Rattle.std.proofs.lemmas.Bool.{cases_lt}
+use Rattle.std.proofs.lemmas.Bool.Decides.{nat_tests}
 use Rattle.std.proofs.lemmas.List.Sums.{sum_by-cons}
 use Rattle.smol_types.specs.declared.reaction.Reaction.{Reaction}
 use Rattle.smol_types.specs.Limits.{certain}
@@ -8,7 +10,7 @@ use Rattle.smol_reactions.specs.declared.scheme.Scheme.{Scheme}
 use Rattle.smol_reactions.specs.Numbered.{numbered, nearest}
 use Rattle.smol_reactions.specs.ReactionProbability.{whole_chance}
 use Rattle.smol_reactions.specs.ReactionSaid.{ReactionSaid}
-use Rattle.smol_reactions.specs.Content.{chance_alone, chance_said, chance_sum, chances_of, reaction_made, reactions_of, schemes_of, threshold_given}
+use Rattle.smol_reactions.specs.Content.{are_shared, chance_alone, chance_said, chance_sum, chances_of, reaction_made, reactions_of, schemes_of, threshold_given}
 
 -- a quotient times its divisor is no more than what was divided
 quotient : (n : ℕ) → whole_chance * (n / whole_chance) ≤ n
@@ -48,3 +50,28 @@ pub shares_fit : (species : ℕ) (said : List ReactionSaid) → chance_sum speci
 shares_fit species said fits =
     let below = shares_below species said 0 (schemes_of said) in
     omega (arith, below, fits)
+
+shared_too : (front here : Bool) → (front && here) ≡ true → (front ≡ true) × (here ≡ true)
+shared_too true here both = (refl, both)
+shared_too false here both = absurd (let no : false ≡ true = both in cc)
+
+-- one whole is enough for each species below the count
+pub shared_at : (count species : ℕ) (reactions : List Reaction) (chances : List (Option ℕ)) → are_shared count reactions chances ≡ true → species < count → chance_sum species reactions chances ≤ whole_chance
+shared_at zero species reactions chances shared below = absurd (omega arith)
+shared_at (suc last) species reactions chances shared below =
+    let parts = shared_too (are_shared last reactions chances) (nat_le (chance_sum last reactions chances) whole_chance) shared in
+    elim (cases_lt species last) [
+      | inl less ↦ shared_at last species reactions chances parts.0 less
+      | inr more ↦
+          let same : last ≡ species = omega arith in
+          let fits : chance_sum last reactions chances ≤ whole_chance = let test = parts.1 in grind (arith, nat_tests) in
+          subst (λ (n : ℕ). chance_sum n reactions chances ≤ whole_chance) same fits
+    ]
+
+not_shared : (b : Bool) → (b ≡ true → ⊥) → b ≡ false
+not_shared true other = absurd (other refl)
+not_shared false other = refl
+
+-- where it isn't enough for one, it isn't for more
+pub unshared : (more species : ℕ) (reactions : List Reaction) (chances : List (Option ℕ)) → whole_chance < chance_sum species reactions chances → are_shared (species + 1 + more) reactions chances ≡ false
+unshared more species reactions chances past = not_shared (are_shared (species + 1 + more) reactions chances) (λ shared. let fits = shared_at (species + 1 + more) species reactions chances shared (omega arith) in omega (arith, fits, past))

@@ -1,5 +1,5 @@
 -- The faults of a line that gives a reaction.
-use Rattle.std.proofs.Common.{◌≡◌, ℕ, true, nat_le, nat_lt, List, length, Option, Some, Result, Ok, Err, refl, sym}
+use Rattle.std.proofs.Common.{◌≡◌, ℕ, true, nat_le, nat_lt, List, length, Some, Ok, Err, refl, sym}
 use Rattle.smol_text.specs.Reading.{Stated, words_of}
 use Rattle.smol_types.specs.declared.fault.Kind.{Kind}
 use Rattle.smol_types.specs.declared.fault.Kind.TheVariants.{TooMany}

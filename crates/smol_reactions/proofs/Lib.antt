@@ -7,3 +7,4 @@ pub mod SchemeLemmas
 pub mod MoreSaid
 pub mod TableLemmas
 pub mod Chances
+pub mod SoundSaid

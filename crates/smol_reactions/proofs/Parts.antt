@@ -1,5 +1,5 @@
 -- Parts of a list, one element after another.
-use Rattle.std.proofs.Common.{◌≡◌, ℕ, suc, ◌+◌, ◌-◌, ◌<◌, ◌≤◌, List, [], ◌∷◌, length, take, drop, get_or, slice_range, refl, sym, ap, ◌∙◌, arith, add-one, drop-cons, take_all, length-take, length-drop, take-take, get_or-take, get_or-drop, min}
+use Rattle.std.proofs.Common.{◌≡◌, ℕ, suc, ◌+◌, ◌-◌, ◌<◌, ◌≤◌, List, [], ◌∷◌, length, take, drop, get_or, slice_range, refl, sym, ap, ◌∙◌, arith, add-one, drop-cons, length-take, length-drop, take-take, get_or-take, get_or-drop, min}
 
 -- a part without elements
 pub part_none : {X : Type 0} (xs : List X) (end : ℕ) → slice_range xs end end ≡ []

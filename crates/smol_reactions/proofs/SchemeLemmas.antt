@@ -1,5 +1,5 @@
 -- What holds of a reaction that a line gives.
-use Rattle.std.proofs.Common.{◌≡◌, ℕ, suc, ◌+◌, ◌<◌, ◌≤◌, ◌&&◌, Bool, true, false, not, nat_le, nat_lt, List, [], ◌∷◌, length, take, drop, Option, None, Some, Result, Ok, Err, refl, sym, ap, ◌∙◌, arith, subst, position, All, if◌then◌else◌, inl, inr}
+use Rattle.std.proofs.Common.{◌≡◌, ℕ, suc, ◌+◌, ◌<◌, ◌≤◌, ◌&&◌, Bool, true, false, not, nat_le, nat_lt, List, [], ◌∷◌, length, take, drop, Option, None, Some, Result, Ok, Err, refl, ap, arith, subst, position, All, if◌then◌else◌}
 use Rattle.std.proofs.lemmas.Bool.Decides.{nat_tests}
 use Rattle.std.proofs.lemmas.List.Elements.{All-nil, All-cons}
 use Rattle.std.proofs.lemmas.List.Quantifiers.{position-Some}
@@ -9,11 +9,11 @@ use Rattle.smol_types.specs.declared.fault.Kind.{Kind}
 use Rattle.smol_types.specs.declared.fault.Kind.TheVariants.{TooMany, UnknownName, NotInProfile, RepeatedName, BadReaction, WrongWordCount}
 use Rattle.smol_types.specs.Limits.{most_products, most_reactions}
 use Rattle.smol_line.specs.Words.{word_at}
-use Rattle.smol_line.specs.Checks.{unless, there, passing, with_value}
+use Rattle.smol_line.specs.Checks.{unless, there, with_value}
 use Rattle.smol_line.specs.Names.{is_name, is_named, new_name_in}
 use Rattle.smol_line.specs.SpeciesWord.{number_found, number_in, number_among, species_name, species_word_in}
 use Rattle.smol_reactions.specs.declared.scheme.Scheme.{Scheme}
-use Rattle.smol_reactions.specs.Arrangement.{Sides, arrangement_in, is_arrow, is_nothing, is_plus, is_sum, left_in, right_in, stands_for_species, summands}
+use Rattle.smol_reactions.specs.Arrangement.{Sides, arrangement_in, is_arrow, is_nothing, is_sum, left_in, right_in, summands}
 use Rattle.smol_reactions.specs.Reaction.{arranged_words, numbers_in, reaction_in, sides_in}
 use Rattle.smol_reactions.specs.Sound.{IsScheme}
 use Rattle.smol_reactions.proofs.Passing.{no_value, same_value, some_same, value_before, test_before}

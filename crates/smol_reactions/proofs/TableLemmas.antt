@@ -1,7 +1,6 @@
 -- What a reader's table keeps through a change.
-use Rattle.std.proofs.Common.{◌≡◌, ℕ, ◌<◌, ◌≤◌, List, length, map, All, subst, refl, sym, ap, ◌∙◌}
+use Rattle.std.proofs.Common.{◌≡◌, ℕ, ◌<◌, ◌≤◌, List, length, All, subst, refl, sym, ap, ◌∙◌}
 use Rattle.smol_types.specs.declared.reaction.Reaction.{Reaction}
-use Rattle.smol_num.specs.declared.quantities.Micro.{Micro}
 use Rattle.smol_types.specs.Limits.{most_products}
 use Rattle.smol_reactions.specs.declared.product_placement.ProductPlacement.{ProductPlacement}
 use Rattle.smol_reactions.specs.declared.product_placement.ProductPlacement.TheVariants.{Offset, Unbind}

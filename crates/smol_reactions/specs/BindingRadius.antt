@@ -1,5 +1,5 @@
 -- `binding_radius REACTION V`: how far apart the two reactants of a reaction may be.
-use Rattle.std.specs.Prelude.{ℕ, ◌==◌, ℤ, pos, List, [], ◌∷◌, slice_get, Result, Ok, Err}
+use Rattle.std.specs.Prelude.{ℕ, ◌==◌, ℤ, pos, List, [], ◌∷◌, slice_get, Result, Ok}
 use Rattle.smol_num.specs.declared.quantities.Micro.{Micro}
 use Rattle.smol_text.specs.Reading.{Stated}
 use Rattle.smol_types.specs.declared.fault.Kind.{Kind}

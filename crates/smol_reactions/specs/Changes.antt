@@ -1,5 +1,5 @@
 -- How a line changes the reactions that a reader keeps. This is no part of what a text means.
-use Rattle.std.specs.Prelude.{ℕ, ℤ, List, length, map, None, Some}
+use Rattle.std.specs.Prelude.{ℕ, length, map, None, Some}
 use Rattle.smol_geom.specs.declared.place.Step3.{Step3}
 use Rattle.smol_num.specs.declared.quantities.Micro.{Micro}
 use Rattle.smol_types.specs.declared.reaction.Placement.TheVariants.{Offsets, Unbind}

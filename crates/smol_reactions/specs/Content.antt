@@ -1,5 +1,5 @@
 -- What lines together say of reactions: of several lines on one matter the nearest counts.
-use Rattle.std.specs.Prelude.{ℕ, ◌+◌, ◌==◌, nat_eq, pos, List, [], ◌∷◌, ◌++◌, length, unwrap_or, Option, None, Some, if◌then◌else◌}
+use Rattle.std.specs.Prelude.{ℕ, zero, suc, Bool, true, ◌&&◌, nat_le, ◌+◌, ◌==◌, nat_eq, pos, List, [], ◌∷◌, ◌++◌, length, unwrap_or, Option, None, Some, if◌then◌else◌}
 use Rattle.smol_geom.specs.declared.place.Step3.{Step3}
 use Rattle.smol_num.specs.declared.quantities.Micro.{Micro}
 use Rattle.smol_num.specs.declared.quantities.Threshold.{Threshold}
@@ -15,7 +15,7 @@ use Rattle.smol_reactions.specs.declared.product_placement.PlacementKind.TheVari
 use Rattle.smol_reactions.specs.declared.product_placement.ProductPlacement.{ProductPlacement}
 use Rattle.smol_reactions.specs.declared.product_placement.ProductPlacement.TheVariants as placement
 use Rattle.smol_reactions.specs.Numbered.{numbered, nearest}
-use Rattle.smol_reactions.specs.ReactionProbability.{threshold_of}
+use Rattle.smol_reactions.specs.ReactionProbability.{threshold_of, whole_chance}
 use Rattle.smol_reactions.specs.ReactionSaid.{ReactionSaid, reacts, binds, happens, places}
 
 -- the reactions that these say, in the order of their lines
@@ -114,3 +114,8 @@ abbrev pub chance_sum : ℕ → List Reaction → List (Option ℕ) → ℕ
 chance_sum species [] chances = 0
 chance_sum species (reaction ∷ reactions) [] = 0
 chance_sum species (reaction ∷ reactions) (chance ∷ chances) = chance_alone species reaction chance + chance_sum species reactions chances
+
+-- one whole is enough for each of so many species
+abbrev pub are_shared : ℕ → List Reaction → List (Option ℕ) → Bool
+are_shared zero reactions chances = true
+are_shared (suc species) reactions chances = are_shared species reactions chances && nat_le (chance_sum species reactions chances) whole_chance

@@ -1,5 +1,5 @@
 -- `product_placement REACTION offset PRODUCT X ...` and `product_placement REACTION unbindrad V`: where products go.
-use Rattle.std.specs.Prelude.{ℕ, ◌+◌, ◌-◌, ◌==◌, ◌&&◌, nat_le, nat_lt, Bool, true, false, ℤ, pos, negsuc, ◌*ℤ◌, List, [], ◌∷◌, length, map, take, drop, position, slice_index_or, Option, None, Some, Result, Ok, Err, if◌then◌else◌, codes}
+use Rattle.std.specs.Prelude.{ℕ, ◌+◌, ◌-◌, ◌==◌, nat_le, nat_lt, Bool, true, false, ℤ, pos, negsuc, ◌*ℤ◌, List, [], ◌∷◌, length, map, take, drop, position, slice_index_or, Option, None, Some, Result, Ok, Err, if◌then◌else◌, codes}
 use Rattle.std.specs.Str.{bytes_eq}
 use Rattle.smol_geom.specs.declared.place.Step3.{Step3}
 use Rattle.smol_text.specs.Reading.{Stated, words_of}

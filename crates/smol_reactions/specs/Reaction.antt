@@ -1,5 +1,5 @@
 -- `reaction NAME LEFT -> RIGHT`: a reaction of one species or two, and what it makes.
-use Rattle.std.specs.Prelude.{ℕ, ◌≤◌, nat_le, nat_lt, List, [], ◌∷◌, length, drop, map, Result, Ok, Err}
+use Rattle.std.specs.Prelude.{ℕ, ◌≤◌, nat_le, nat_lt, List, [], ◌∷◌, length, drop, map, Result, Ok}
 use Rattle.smol_text.specs.Reading.{Stated, words_of}
 use Rattle.smol_types.specs.declared.fault.Kind.{Kind}
 use Rattle.smol_types.specs.declared.fault.Kind.TheVariants.{WrongWordCount, TooMany}

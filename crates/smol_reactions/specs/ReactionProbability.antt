@@ -1,5 +1,5 @@
 -- `reaction_probability REACTION P`: how likely a reaction is, as the share of the random words that let it happen.
-use Rattle.std.specs.Prelude.{ℕ, ◌*◌, ◌/◌, List, [], ◌∷◌, Result, Ok, Err}
+use Rattle.std.specs.Prelude.{ℕ, ◌*◌, ◌/◌, List, [], ◌∷◌, Result, Ok}
 use Rattle.smol_num.specs.declared.quantities.Threshold.{Threshold}
 use Rattle.smol_text.specs.Reading.{Stated}
 use Rattle.smol_types.specs.declared.fault.Kind.{Kind}

@@ -1,21 +1,14 @@
 -- What a reader keeps of reactions. This is no part of what a text means.
-use Rattle.std.specs.Prelude.{◌≡◌, ◌<◌, ◌≤◌, List, [], ◌∷◌, length, All, Result, Ok, Err}
+use Rattle.std.specs.Prelude.{◌≡◌, ◌≤◌, List, ◌∷◌, length, All, Result, Ok, Err}
 use Rattle.smol_types.specs.declared.fault.Kind.{Kind}
 use Rattle.smol_types.specs.Limits.{most_reactions}
 use Rattle.smol_line.specs.declared.refusal.Refusal.{Refusal}
 use Rattle.smol_line.specs.declared.refusal.Refusal.TheVariants.{At, OutOfMemory}
 use Rattle.smol_reactions.specs.declared.reactions.Reactions.{Reactions}
 use Rattle.smol_reactions.specs.Reaction.{names_of, HasFewProducts}
-use Rattle.smol_reactions.specs.ReactionSaid.{ReactionSaid, reacts, binds, happens, places}
-use Rattle.smol_reactions.specs.Content.{schemes_of, reactions_of, kinds_of, chances_of}
-
--- each of these that isn't a reaction says of one before it
-abbrev pub AreOrdered : List ReactionSaid → Type 0
-AreOrdered [] = Unit {0}
-AreOrdered (reacts scheme ∷ before) = AreOrdered before
-AreOrdered (binds number radius ∷ before) = (number < length (schemes_of before)) × AreOrdered before
-AreOrdered (happens number chance ∷ before) = (number < length (schemes_of before)) × AreOrdered before
-AreOrdered (places number placement ∷ before) = (number < length (schemes_of before)) × AreOrdered before
+use Rattle.smol_reactions.specs.ReactionSaid.{ReactionSaid}
+use Rattle.smol_reactions.specs.Content.{reactions_of, kinds_of, chances_of}
+use Rattle.smol_reactions.specs.Order.{AreOrdered}
 
 -- the table is what these say of reactions
 pub record Holds (table : Reactions) (said : List ReactionSaid) : Type 0 where
@@ -32,7 +25,7 @@ pub record IsKept (table : Reactions) : Type 0 where
   pub products : All HasFewProducts table.list.items
   pub few : length table.list.items ≤ most_reactions
 
--- how the reading of a line ends: it is taken and the table holds what it says too, or its fault is said, or memory ran out
+-- how the reading of a line ends: it is taken and the table holds what it says too, or its fault is told, or memory ran out
 abbrev pub Reads : {T : Type 0} → (List ReactionSaid → Result ReactionSaid Kind) → Reactions → Reactions → Result T Refusal → Type 0
 Reads rule old new (Ok done) = (said : List ReactionSaid) → Holds old said → (more : ReactionSaid) × (rule said ≡ Ok more) × Holds new (more ∷ said)
 Reads rule old new (Err (At kind)) = (said : List ReactionSaid) → Holds old said → rule said ≡ Err kind

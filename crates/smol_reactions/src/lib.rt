@@ -12,7 +12,7 @@ mod scheme;
 #[cfg(test)]
 mod tests;
 
-pub use law::probabilities_share_the_words;
+pub use law::{lines_keep_reactions_sound, probabilities_share_the_words};
 pub use product_placement::{PlacementKind, ProductPlacement};
 pub use reactions::Reactions;
 pub use scheme::Scheme;

@@ -3,7 +3,7 @@ ghost use Rattle.std.specs.Prelude.{◌≡◌, ◌≤◌, [], length, map, IfOk}
 ghost use Rattle.smol_reactions.specs.Numbered.{changed};
 ghost use Rattle.smol_types.specs.Limits.{most_reactions};
 ghost use Rattle.smol_types.specs.Reactions.{reacts_alone};
-ghost use Rattle.smol_reactions.specs.Content.{chance_alone, chance_sum, usual_threshold};
+ghost use Rattle.smol_reactions.specs.Content.{are_shared, chance_alone, chance_sum, usual_threshold};
 ghost use Rattle.smol_reactions.specs.Changes.{fresh_product, fresh_reaction, with_chance, with_offset, with_placement, with_radius};
 
 use crate::product_placement::{PlacementKind, ProductPlacement, kind_of};
@@ -20,6 +20,9 @@ use std::mem;
 
 /// How many random words there are, each of which lets a certain reaction happen.
 const CERTAIN: Threshold = Threshold(4_294_967_296);
+
+/// One whole, in billionths.
+const WHOLE_CHANCE: u64 = 1_000_000_000;
 
 /// The reactions that the lines read so far say_of, each with what they say_of of it.
 #[derive(Drop)]
@@ -299,11 +302,31 @@ impl Reactions {
         Ok(())
     }
 
+    /// The reactions as the lines tell them. Takes no memory.
+    pub fn into_list(self) -> Items<Reaction>
+        ensures { result ≡ self.list.items }
+    {
+        Items::from_vec(self.list)
+    }
+
     /// How likely the reactions of which the species is the one reactant are together, in billionths.
     pub fn chance_sum(&self, species: u16) -> u64
         requires kept { IsKept self.now }
         ensures { result ≡ chance_sum species self.now.list.items self.now.chances.items }
     {
         chance_sum(species, self.list.as_slice(), self.chances.as_slice())
+    }
+
+    /// Whether one whole is enough for the first-order reactions of each of so many species.
+    pub fn are_shared(&self, species_count: u16) -> bool
+        requires kept { IsKept self.now }
+        ensures { result ≡ are_shared species_count self.now.list.items self.now.chances.items }
+    {
+        for species in 0..species_count {
+            if self.chance_sum(species) > WHOLE_CHANCE {
+                return false;
+            }
+        }
+        true
     }
 }

@@ -5,6 +5,8 @@ mod error_lines;
 mod loss;
 mod outputs;
 mod program;
+#[cfg(test)]
+mod rows;
 mod run;
 mod status;
 mod stop;

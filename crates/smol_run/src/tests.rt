@@ -242,12 +242,13 @@ fn refusals_name_their_line(rt: HostRuntime) -> Result<(), Fail> {
         &[
             "dim 1",
             "species A",
-            "difstep A 1",
+            "max_mol 2",
             "boundaries x 0 100 p",
             "time_stop 1",
             "time_step 1",
+            "mol 3 A 1",
         ],
-        "line 0: not in this profile\n",
+        "line 0: too many\n",
     )?;
     Ok(())
 }

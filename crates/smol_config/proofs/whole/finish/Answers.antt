@@ -1,10 +1,12 @@
-use Rattle.std.proofs.Common.{◌≡◌, List, Ok, Err, sym, ap, ◌∙◌}
+use Rattle.std.proofs.Common.{◌≡◌, ◌≤◌, ℕ, true, length, subst, List, Ok, Err, sym, ap, ◌∙◌}
 use Rattle.std.proofs.lemmas.Result.{err_from_is_err_and}
 use Rattle.smol_types.specs.declared.draft.Draft.{Draft}
 use Rattle.smol_types.specs.declared.fault.Kind.{Kind}
+use Rattle.smol_reactions.specs.Content.{chances_of}
+use Rattle.smol_config.specs.Reactions.{reactions_said}
 use Rattle.smol_config.specs.Said.{Said}
 use Rattle.smol_config.specs.Tables.{Holds}
-use Rattle.smol_config.specs.Whole.{bounded, whole_in}
+use Rattle.smol_config.specs.Whole.{bounded, has_chances, whole_in}
 use Rattle.smol_config.proofs.WholeSound.{needed_is, small_walls, whole_ok, whole_missing, whole_excess, whole_is_sound}
 use Rattle.smol_config.proofs.whole.finish.Goals as goal
 use Rattle.smol_config.proofs.whole.finish.Goals.{In_ok-draft-2}
@@ -26,13 +28,15 @@ draft_of-requires c =
       x = small_walls _ 0 _ _ holds.bounds.x h.x;
       y = small_walls _ 1 _ _ holds.bounds.y h.y;
       z = small_walls _ 2 _ _ holds.bounds.z h.z;
+      species = subst (λ (names : List (List ℕ)). length names ≤ 256) (sym holds.species) h.species;
+      kept = holds.kept;
     }
 
 -- the draft is what the whole file says
 whole : (c : In_ok-draft-2) (before : List Said) → Holds c.args.tables before → whole_in before ≡ Ok c.in_ok-draft-2.draft
 whole c before holds =
     whole_ok before c.in_ok-needed.needed c.in_ok-draft-2.draft (sym (c.in_ok-needed.ensures before holds))
-    (ap bounded (sym (c.in_ok-draft.ensures.content before holds)) ∙ sym c.in_ok-draft-2.ensures)
+    (ap (bounded (chances_of (reactions_said before))) (sym (c.in_ok-draft.ensures.content before holds)) ∙ sym (c.in_ok-draft-2.ensures (chances_of (reactions_said before)) (subst (λ chances. has_chances chances c.in_ok-draft.draft ≡ true) holds.reactions.chances c.in_ok-draft.ensures.shared)))
 
 pub of-requires : goal.of-requires
 of-requires c = whole_is_sound c.requires.0 c.in_ok-draft-2.draft c.requires.2 (whole c c.requires.0 c.requires.1)
@@ -56,4 +60,4 @@ returns-in_err-draft-2-clause-refused c kind before is holds =
     let p = err_from_is_err_and c.from_residual-in_err-draft-2.result c.from_residual-in_err-draft-2.ensures.1 in
     let told : c.in_err-draft-2.field-0.0 ≡ kind = cc (p.1, p.2, is) in
     whole_excess before c.in_ok-needed.needed kind (sym (c.in_ok-needed.ensures before holds))
-    (ap bounded (sym (c.in_ok-draft.ensures.content before holds)) ∙ sym c.in_err-draft-2.ensures ∙ ap (λ (why : Kind). Err why) told)
+    (ap (bounded (chances_of (reactions_said before))) (sym (c.in_ok-draft.ensures.content before holds)) ∙ sym (c.in_err-draft-2.ensures (chances_of (reactions_said before)) (subst (λ chances. has_chances chances c.in_ok-draft.draft ≡ true) holds.reactions.chances c.in_ok-draft.ensures.shared)) ∙ ap (λ (why : Kind). Err why) told)

@@ -1,4 +1,4 @@
-use Rattle.std.proofs.Common.{[], ap, ◌∙◌, sym, arith}
+use Rattle.std.proofs.Common.{ap, ◌∙◌, sym, arith}
 use Rattle.smol_text.specs.Reading.{words_of}
 use Rattle.smol_reactions.specs.Arrangement.{is_arrow}
 use Rattle.smol_reactions.proofs.Sides.{arrow_at, arrow_nowhere}

@@ -1,6 +1,6 @@
-use Rattle.std.proofs.Common.{◌≡◌, ◌&&◌, false, nat_le, length, slice_range, Err, sym, ap, ◌∙◌, refl, arith}
+use Rattle.std.proofs.Common.{◌≡◌, ◌&&◌, false, nat_le, length, slice_range, sym, ap, ◌∙◌, arith}
 use Rattle.smol_text.specs.Reading.{words_of}
-use Rattle.smol_reactions.specs.Arrangement.{is_sum, is_nothing, left_in}
+use Rattle.smol_reactions.specs.Arrangement.{is_sum, is_nothing}
 use Rattle.smol_reactions.proofs.Parts.{length_of_part}
 use Rattle.smol_reactions.proofs.Sides.{left_bad, too_many_words}
 use Rattle.smol_reactions.proofs.arrangement.check_left.Goals as goal

@@ -1,8 +1,7 @@
-use Rattle.std.proofs.Common.{◌==◌, position, sym, ap, ◌∙◌}
+use Rattle.std.proofs.Common.{◌==◌, sym, ap, ◌∙◌}
 use Rattle.smol_types.specs.declared.reaction.Product.{Product}
 use Rattle.smol_line.proofs.SetLemmas.{position-map}
 use Rattle.smol_line.specs.SpeciesWord.{number_found}
-use Rattle.smol_reactions.specs.ProductPlacement.{species_made}
 use Rattle.smol_reactions.proofs.product_placement.first_of_species.Goals as goal
 
 pub returns-in-Some-clause-value : goal.returns-in-Some-clause-value

@@ -5,7 +5,7 @@ use Rattle.smol_reactions.specs.Numbered.{changed}
 use Rattle.smol_reactions.specs.ReactionSaid.{places}
 use Rattle.smol_reactions.specs.Statements.{say_of}
 use Rattle.smol_reactions.specs.Changes.{with_placement}
-use Rattle.smol_reactions.specs.Content.{kind_of, kinds_of, reactions_of}
+use Rattle.smol_reactions.specs.Content.{kinds_of, reactions_of}
 use Rattle.smol_reactions.proofs.Lists.{length-changed}
 use Rattle.smol_reactions.proofs.TableLemmas.{alike, number_said, placed_mild}
 use Rattle.smol_reactions.proofs.MoreSaid.{kinds_more, placement_more}
