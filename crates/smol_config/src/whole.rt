@@ -203,7 +203,9 @@ fn draft_of(alloc: Global, needed: Needed, tables: Tables) -> Result<Draft, Refu
     let few = last_step(start, needed.stop, needed.step) <= MOST_STEPS;
     unless(few, Kind::TooMany)?;
     let species = make_species(alloc, &tables.species, needed.step)?;
-    let shared = tables.reactions.are_shared(tables.species.names.len() as u16);
+    let shared = tables
+        .reactions
+        .are_shared(tables.species.names.len() as u16);
     unless(shared, Kind::ProbabilitySum)?;
     let walls = walls_of(alloc, &tables.bounds)?;
     let reactions = tables.reactions.into_list();
