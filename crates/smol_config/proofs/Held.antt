@@ -1,5 +1,5 @@
 -- The tables with what one line more says.
-use Rattle.std.proofs.Common.{◌≡◌, ◌<◌, ◌++◌, ◌∷◌, [], ◌&&◌, ℕ, zero, suc, ℤ, List, length, Option, None, Some, Result, Ok, Err, OnOk, nat_le, nat_lt, slice_index_or, slice_set, arith, refl, sym, ap, ◌∙◌, if◌then◌else◌}
+use Rattle.std.proofs.Common.{◌≡◌, ◌<◌, ◌++◌, ◌∷◌, [], ◌&&◌, ℕ, zero, suc, ℤ, List, length, Option, None, Some, Result, Ok, Err, OnOk, nat_le, nat_lt, slice_index_or, slice_set, arith, refl, ap, ◌∙◌, if◌then◌else◌}
 use Rattle.std.proofs.lemmas.List.{length-set}
 use Rattle.smol_text.specs.Reading.{Stated}
 use Rattle.smol_types.specs.declared.command.Command.{Command}
@@ -20,7 +20,7 @@ use Rattle.smol_config.specs.declared.tables.Tables.{Tables}
 use Rattle.smol_config.specs.declared.walls.Bounds.{Bounds}
 use Rattle.smol_config.specs.Said.{Said, passed_over, axes, names, moves, starts, stops, steps, limits, seeds, walls, places, of_reactions, performs, say}
 use Rattle.smol_config.specs.Species.{further_words, species_in, species_of}
-use Rattle.smol_config.specs.Motion.{motion_of, still}
+use Rattle.smol_config.specs.Motion.{still}
 use Rattle.smol_config.specs.Reader.{statement_in}
 use Rattle.smol_config.specs.Walls.{bounds_of}
 use Rattle.smol_config.specs.Reactions.{reactions_said}

@@ -1,5 +1,5 @@
 -- A line without a fault keeps what holds so far.
-use Rattle.std.proofs.Common.{◌≡◌, ◌⊎◌, inl, inr, ◌+ℤ◌, ◌-ℤ◌, ◌==◌, ◌+◌, ◌<◌, ◌≤◌, ◌%◌, ◌&&◌, ◌||◌, Bool, true, false, ℕ, zero, suc, ℤ, pos, negsuc, ◌<ℤ◌, ◌≤ℤ◌, ◌*ℤ◌, nat_le, nat_lt, int_lt, int_le, List, [], ◌∷◌, length, Option, None, Some, Result, Ok, Err, IfSome, IsSomeAnd, unsigned_abs, arith, refl, sym, ap, ◌∙◌, subst, if◌then◌else◌, codes}
+use Rattle.std.proofs.Common.{◌≡◌, ◌⊎◌, inl, inr, ◌+ℤ◌, ◌-ℤ◌, ◌==◌, ◌+◌, ◌<◌, ◌≤◌, ◌&&◌, ◌||◌, Bool, true, false, ℕ, ℤ, pos, negsuc, ◌<ℤ◌, ◌≤ℤ◌, ◌*ℤ◌, nat_le, nat_lt, int_lt, int_le, List, [], ◌∷◌, length, Option, None, Some, Result, Ok, Err, IfSome, IsSomeAnd, unsigned_abs, arith, refl, sym, ap, ◌∙◌, subst, if◌then◌else◌, codes}
 use Rattle.std.specs.Ordering.{int_eq}
 use Rattle.std.specs.Str.{bytes_eq}
 use Rattle.std.proofs.lemmas.Bool.Decides.{nat_tests, Decides-int_eq}
@@ -18,13 +18,12 @@ use Rattle.smol_types.specs.declared.placing.Placing.{Placing}
 use Rattle.smol_types.specs.declared.placing.Placing.TheVariants as placing
 use Rattle.smol_types.specs.declared.wall.Letter.{Letter}
 use Rattle.smol_types.specs.declared.wall.Wall.{Wall}
-use Rattle.smol_types.specs.Commands.{IsWhen, IsAct, IsCommand}
-use Rattle.smol_types.specs.Placings.{IsPlacing}
+use Rattle.smol_types.specs.Commands.{IsWhen, IsAct}
 use Rattle.smol_types.specs.Walls.{LiesBetween, IsGiven, AreGiven}
 use Rattle.smol_line.specs.Axis.{axis_in}
-use Rattle.smol_line.specs.Checks.{unless, once, word_count, there, passing, with_value}
+use Rattle.smol_line.specs.Checks.{unless, once, word_count, passing, with_value}
 use Rattle.smol_line.specs.Length.{micros_in}
-use Rattle.smol_line.specs.Numbers.{count_in, decimal_in}
+use Rattle.smol_line.specs.Numbers.{count_in}
 use Rattle.smol_line.specs.SpeciesWord.{species_word_in}
 use Rattle.smol_line.specs.Words.{word_at}
 use Rattle.smol_line.proofs.Passing.{passed, valued, holds, not_yet, is_there}
@@ -51,10 +50,10 @@ use Rattle.smol_config.specs.Reactions.{reactions_said}
 use Rattle.smol_config.specs.Cmd.{commands_of, cmd_in}
 use Rattle.smol_config.specs.Cmd.When.{when_in}
 use Rattle.smol_config.specs.Cmd.Act.{verb_in, outlet_in, verb_act, act_in}
-use Rattle.smol_config.specs.Content.{walls_at, walls_of, walls_in}
+use Rattle.smol_config.specs.Content.{walls_of, walls_in}
 use Rattle.smol_config.specs.Reader.{statement_in, line_in}
 use Rattle.smol_config.specs.SoFar.{IsBounded, IsSettled, IsSoFar}
-use Rattle.smol_config.proofs.Kept.{passed_over_kept, axes_kept, names_kept, moves_kept, starts_kept, stops_kept, steps_kept, limits_kept, seeds_kept, walls_kept, places_kept, of_reactions_kept, performs_kept, three, settled_walls}
+use Rattle.smol_config.proofs.Kept.{passed_over_kept, axes_kept, names_kept, moves_kept, starts_kept, stops_kept, steps_kept, limits_kept, seeds_kept, walls_kept, places_kept, of_reactions_kept, performs_kept, three}
 
 -- what is said is said by a value
 said_by : {T : Type 0} (wrap : T → Said) (rule : Result T Kind) (said : Said) → say wrap rule ≡ Ok said → (value : T) × (rule ≡ Ok value) × (wrap value ≡ said)

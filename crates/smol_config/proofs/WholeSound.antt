@@ -1,17 +1,16 @@
 -- What an accepted text says is sound.
-use Rattle.std.proofs.Common.{◌≡◌, ◌+◌, ◌*◌, ◌<◌, ◌≤◌, ◌%◌, ◌||◌, Bool, true, false, ℕ, zero, suc, ℤ, pos, ◌<ℤ◌, ◌*ℤ◌, nat_le, List, [], ◌∷◌, length, map, All, Option, None, Some, Result, Ok, Err, IfSome, sum_by, unsigned_abs, unwrap_or, arith, refl, sym, ap, ◌∙◌, subst, if◌then◌else◌, nat_lt}
+use Rattle.std.proofs.Common.{◌≡◌, ◌+◌, ◌*◌, ◌<◌, ◌≤◌, ◌%◌, ◌||◌, Bool, true, false, ℕ, suc, ℤ, pos, ◌<ℤ◌, ◌*ℤ◌, nat_le, List, [], ◌∷◌, length, All, Option, None, Some, Result, Ok, Err, IfSome, sum_by, unsigned_abs, arith, refl, sym, ap, subst, if◌then◌else◌, nat_lt}
 use Rattle.std.specs.List.{list_all}
 use Rattle.std.proofs.lemmas.Bool.Decides.{nat_tests}
 use Rattle.std.proofs.lemmas.Int.{ints}
 use Rattle.std.proofs.lemmas.List.Elements.{All-weaker}
 use Rattle.std.proofs.lemmas.List.Sums.{AllPass-from_list_all}
-use Rattle.smol_text.specs.Reading.{Stated, LinesFault, statements_of}
+use Rattle.smol_text.specs.Reading.{Stated, statements_of}
 use Rattle.smol_types.specs.declared.draft.Draft.{Draft}
 use Rattle.smol_types.specs.declared.fault.Kind.{Kind}
 use Rattle.smol_types.specs.declared.fault.Kind.TheVariants as kind
 use Rattle.smol_types.specs.declared.fault.Need.TheVariants as need
 use Rattle.smol_types.specs.declared.species.Species.{Species}
-use Rattle.smol_types.specs.declared.wall.Wall.{Wall}
 use Rattle.smol_types.specs.Commands.{IsCommand}
 use Rattle.smol_types.specs.Placings.{IsPlacing, placed_by}
 use Rattle.smol_types.specs.Reactions.{IsReaction}

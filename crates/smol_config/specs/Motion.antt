@@ -1,5 +1,5 @@
 -- `difc SPECIES+ V` and `difstep SPECIES+ V`: how far species move in a step. Of the lines that mean a species the last one counts.
-use Rattle.std.specs.Prelude.{ℕ, ◌*◌, ◌/◌, ℤ, unsigned_abs, List, [], ◌∷◌, Result, Ok, Err, if◌then◌else◌}
+use Rattle.std.specs.Prelude.{ℕ, ◌*◌, ◌/◌, ℤ, unsigned_abs, List, [], ◌∷◌, Result, Ok, if◌then◌else◌}
 use Rattle.smol_num.specs.Root.{floor_root}
 use Rattle.smol_text.specs.Reading.{Stated}
 use Rattle.smol_types.specs.declared.fault.Kind.{Kind}

@@ -1,5 +1,5 @@
 -- What holds of what the lines so far say, where none of them has a fault. This is no part of what a text means.
-use Rattle.std.specs.Prelude.{◌≡◌, ℕ, ◌+◌, ◌<◌, ◌≤◌, true, pos, ◌<ℤ◌, List, length, All, Option, Some, IfSome, IsSomeAnd, unsigned_abs}
+use Rattle.std.specs.Prelude.{◌≡◌, ℕ, ◌+◌, ◌<◌, ◌≤◌, true, pos, ◌<ℤ◌, List, length, All, Option, IfSome, IsSomeAnd, unsigned_abs}
 use Rattle.smol_types.specs.Limits.{most_species, most_molecules, most_commands, latest}
 use Rattle.smol_types.specs.Placings.{IsPlacing}
 use Rattle.smol_types.specs.Commands.{IsCommand}

@@ -1,5 +1,5 @@
 -- `species NAME ...`: the names of species, in order. Each is new, and there are 256 at most.
-use Rattle.std.specs.Prelude.{ℕ, ◌+◌, nat_le, List, [], ◌∷◌, ◌++◌, length, drop, Option, None, Some, Result, Ok, Err}
+use Rattle.std.specs.Prelude.{ℕ, ◌+◌, nat_le, List, [], ◌∷◌, ◌++◌, length, drop, Option, None, Some, Result, Ok}
 use Rattle.std.specs.Result.{result_err}
 use Rattle.smol_text.specs.Reading.{Stated, words_of}
 use Rattle.smol_types.specs.declared.fault.Kind.{Kind}

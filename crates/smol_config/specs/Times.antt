@@ -1,5 +1,5 @@
 -- `time_start T`, `time_stop T` and `time_step T`: times in nanos, from -10^9 to 10^9 seconds. Each stands once, and the step is above 0.
-use Rattle.std.specs.Prelude.{ℕ, ℤ, pos, negsuc, int_lt, List, [], ◌∷◌, Option, None, Some, Result, Ok, Err}
+use Rattle.std.specs.Prelude.{ℕ, ℤ, pos, negsuc, int_lt, List, [], ◌∷◌, Option, None, Some, Result, Ok}
 use Rattle.smol_text.specs.Reading.{Stated}
 use Rattle.smol_types.specs.declared.fault.Kind.{Kind}
 use Rattle.smol_types.specs.declared.fault.Kind.TheVariants.{OutOfRange}

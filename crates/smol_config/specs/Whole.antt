@@ -1,5 +1,5 @@
 -- The tests of the whole file, after its last line: what is missing, and what is too much.
-use Rattle.std.specs.Prelude.{ℕ, Bool, nat_le, sum_by, List, [], ◌∷◌, length, Option, Result, Ok, Err}
+use Rattle.std.specs.Prelude.{ℕ, Bool, nat_le, sum_by, List, [], ◌∷◌, length, Option, Result, Ok}
 use Rattle.std.specs.List.{list_all}
 use Rattle.smol_types.specs.declared.fault.Kind.{Kind}
 use Rattle.smol_types.specs.declared.fault.Kind.TheVariants.{Missing, OutOfRange, ProbabilitySum, TooMany}

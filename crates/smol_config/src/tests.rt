@@ -167,8 +167,56 @@ const MOTIONS_BEHIND_BASE: [(&str, u32, Kind); 21] = [
     ("mol 100001 A 50 50 50\ndifstep A 1", 0, Kind::TooMany),
 ];
 
+// The same of reactions.
+const REACTIONS_BEHIND_BASE: [(&str, u32, Kind); 9] = [
+    ("reaction r B -> A", 9, Kind::UnknownName),
+    ("reaction r A -> A 1", 9, Kind::NotInProfile),
+    (
+        "reaction r A -> A\nreaction r A -> A",
+        10,
+        Kind::RepeatedName,
+    ),
+    (
+        "reaction r A -> A\nbinding_radius r 1",
+        10,
+        Kind::BadReaction,
+    ),
+    (
+        "reaction r A -> A\nreaction_probability r 1.1",
+        10,
+        Kind::OutOfRange,
+    ),
+    (
+        "reaction r A -> A\nproduct_placement r offset A 1 1",
+        10,
+        Kind::WrongWordCount,
+    ),
+    (
+        "reaction r A -> A\nproduct_placement r unbindrad 1",
+        10,
+        Kind::BadReaction,
+    ),
+    // The whole.
+    (
+        "max_mol 1\nmol 2 A 1 1 1\nreaction r A -> 0\nreaction s A -> A\nreaction_probability r 0.6\nreaction_probability s 0.400000001",
+        0,
+        Kind::ProbabilitySum,
+    ),
+    (
+        "max_mol 1\nmol 2 A 1 1 1\nreaction r A -> 0\nreaction s A -> A\nreaction t A + A -> A\nreaction_probability r 0.6\nreaction_probability s 1\nreaction_probability s 0.4",
+        0,
+        Kind::TooMany,
+    ),
+];
+
 // Whole texts, and the line and the kind of their fault.
-const TEXTS: [(&str, u32, Kind); 51] = [
+const TEXTS: [(&str, u32, Kind); 52] = [
+    // `product_placement` needs `dim`.
+    (
+        "species A\nreaction r A -> A\nproduct_placement r",
+        3,
+        Kind::BadOrder,
+    ),
     // Bytes and comments.
     ("bogus\n\ndim 3\0", 3, Kind::BadByte),
     ("graphics \u{7f}\n/*", 1, Kind::BadByte),
@@ -373,6 +421,16 @@ fn commands_behind_the_base_are_refused(rt: HostRuntime) -> Result<(), Fail> {
 #[test]
 fn motions_behind_the_base_are_refused(rt: HostRuntime) -> Result<(), Fail> {
     for (lines, line, kind) in MOTIONS_BEHIND_BASE {
+        let text = behind_base(rt.alloc(), lines)?;
+        let fault = fault_of(rt.alloc(), &text);
+        assert_eq!(rt; fault, Some(ConfigFault::At { line, kind }), "{lines}");
+    }
+    Ok(())
+}
+
+#[test]
+fn reactions_behind_the_base_are_refused(rt: HostRuntime) -> Result<(), Fail> {
+    for (lines, line, kind) in REACTIONS_BEHIND_BASE {
         let text = behind_base(rt.alloc(), lines)?;
         let fault = fault_of(rt.alloc(), &text);
         assert_eq!(rt; fault, Some(ConfigFault::At { line, kind }), "{lines}");

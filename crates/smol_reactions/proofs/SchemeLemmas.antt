@@ -1,37 +1,21 @@
 -- What holds of a reaction that a line gives.
-use Rattle.std.proofs.Common.{◌≡◌, ℕ, suc, ◌+◌, ◌<◌, ◌≤◌, ◌&&◌, Bool, true, false, not, nat_le, nat_lt, List, [], ◌∷◌, length, take, drop, Option, None, Some, Result, Ok, Err, refl, ap, arith, subst, position, All, if◌then◌else◌}
+use Rattle.std.proofs.Common.{◌≡◌, ℕ, suc, ◌+◌, ◌<◌, ◌≤◌, ◌&&◌, Bool, true, false, not, nat_le, nat_lt, List, [], ◌∷◌, length, take, drop, Ok, Err, refl, ap, arith, subst, position, All, if◌then◌else◌}
 use Rattle.std.proofs.lemmas.Bool.Decides.{nat_tests}
 use Rattle.std.proofs.lemmas.List.Elements.{All-nil, All-cons}
-use Rattle.std.proofs.lemmas.List.Quantifiers.{position-Some}
-use Rattle.std.specs.Str.{bytes_eq}
 use Rattle.smol_text.specs.Reading.{Stated, words_of}
-use Rattle.smol_types.specs.declared.fault.Kind.{Kind}
-use Rattle.smol_types.specs.declared.fault.Kind.TheVariants.{TooMany, UnknownName, NotInProfile, RepeatedName, BadReaction, WrongWordCount}
+use Rattle.smol_types.specs.declared.fault.Kind.TheVariants.{TooMany, NotInProfile, RepeatedName, BadReaction, WrongWordCount}
 use Rattle.smol_types.specs.Limits.{most_products, most_reactions}
 use Rattle.smol_line.specs.Words.{word_at}
 use Rattle.smol_line.specs.Checks.{unless, there, with_value}
 use Rattle.smol_line.specs.Names.{is_name, is_named, new_name_in}
-use Rattle.smol_line.specs.SpeciesWord.{number_found, number_in, number_among, species_name, species_word_in}
+use Rattle.smol_line.specs.SpeciesWord.{species_word_in}
+use Rattle.smol_line.proofs.Passing.{valued}
+use Rattle.smol_line.proofs.Ranges.{species_word_in-within}
 use Rattle.smol_reactions.specs.declared.scheme.Scheme.{Scheme}
 use Rattle.smol_reactions.specs.Arrangement.{Sides, arrangement_in, is_arrow, is_nothing, is_sum, left_in, right_in, summands}
 use Rattle.smol_reactions.specs.Reaction.{arranged_words, numbers_in, reaction_in, sides_in}
 use Rattle.smol_reactions.specs.Sound.{IsScheme}
-use Rattle.smol_reactions.proofs.Passing.{no_value, same_value, some_same, value_before, test_before}
-
-found_below : (found : Option ℕ) (count number : ℕ) → ((n : ℕ) → found ≡ Some n → n < count) → number_found found ≡ Ok number → number < count
-found_below None count number below is = no_value UnknownName number is
-found_below (Some n) count number below is = let same : n ≡ number = same_value (number_found (Some n)) n number refl is in subst (λ (k : ℕ). k < count) same (below n refl)
-
--- a number that a name has is one of the names'
-pub number_below : (names : List (List ℕ)) (word : List ℕ) (number : ℕ) → number_in names word ≡ Ok number → number < length names
-number_below names word number is = found_below (position (bytes_eq word) names) (length names) number (λ n at. (position-Some (bytes_eq word) names n [] at).0) is
-
-among_below : (names : List (List ℕ)) (name : Result (List ℕ) Kind) (number : ℕ) → number_among names name ≡ Ok number → number < length names
-among_below names (Ok name) number is = number_below names name number is
-among_below names (Err kind) number is = no_value kind number is
-
-pub species_below : (names : List (List ℕ)) (word : List ℕ) (number : ℕ) → species_word_in names word ≡ Ok number → number < length names
-species_below names word number is = among_below names (species_name word) number is
+use Rattle.smol_reactions.proofs.Passing.{no_value, same_value, held}
 
 -- these numbers are as many as the words, and each is one of so many
 record AreBelow (count : ℕ) (words : List (List ℕ)) (numbers : List ℕ) : Type 0 where
@@ -50,12 +34,12 @@ one_below count number word words numbers below more = record {
 -- the numbers of words are as many as the words, each one of the names'
 numbers_below : (species words : List (List ℕ)) (numbers : List ℕ) → numbers_in species words ≡ Ok numbers → AreBelow (length species) words numbers
 numbers_below species [] numbers is =
-    subst (AreBelow (length species) []) (same_value (numbers_in species []) [] numbers refl is) (none_below (length species))
+    subst (AreBelow (length species) []) (same_value [] numbers (numbers_in species []) refl is) (none_below (length species))
 numbers_below species (word ∷ words) numbers is =
-    let first = value_before (species_word_in species word) (λ number. with_value (numbers_in species words) (λ more. Ok (number ∷ more))) numbers is in
-    let rest = value_before (numbers_in species words) (λ more. Ok (first.0 ∷ more)) numbers first.2 in
-    let both = one_below (length species) first.0 word words rest.0 (species_below species word first.0 first.1) (numbers_below species words rest.0 rest.1) in
-    let made : first.0 ∷ rest.0 ≡ numbers = some_same (first.0 ∷ rest.0) numbers _ refl rest.2 in
+    let first = valued (species_word_in species word) (λ number. with_value (numbers_in species words) (λ more. Ok (number ∷ more))) numbers is in
+    let rest = valued (numbers_in species words) (λ more. Ok (first.0 ∷ more)) numbers first.2 in
+    let both = one_below (length species) first.0 word words rest.0 (species_word_in-within species word first.0 first.1) (numbers_below species words rest.0 rest.1) in
+    let made : first.0 ∷ rest.0 ≡ numbers = same_value (first.0 ∷ rest.0) numbers _ refl rest.2 in
     subst (AreBelow (length species) (word ∷ words)) made both
 
 -- a sum has a species word
@@ -82,7 +66,7 @@ both_true false b both = absurd (let no : false ≡ true = both in cc)
 
 left_value : (words : List (List ℕ)) (nothing sum : Bool) (left : List (List ℕ)) → (if nothing then Err NotInProfile else (if sum then Ok (summands words) else Err BadReaction)) ≡ Ok left → (sum ≡ true) × (summands words ≡ left)
 left_value words true sum left is = no_value NotInProfile left is
-left_value words false true left is = (refl, same_value (Ok (summands words)) (summands words) left refl is)
+left_value words false true left is = (refl, same_value (summands words) left (Ok (summands words)) refl is)
 left_value words false false left is = no_value BadReaction left is
 
 -- LEFT has one species word or two
@@ -97,10 +81,10 @@ left_few words left is =
 sides_few : (words : List (List ℕ)) (sides : Sides) → arrangement_in words ≡ Ok sides → IsOneOrTwo sides.reactants
 unfolding arrangement_in
 sides_few words sides is =
-    let arrow = value_before (there (position is_arrow words) BadReaction) _ sides is in
-    let left = value_before (left_in (take arrow.0 words)) _ sides arrow.2 in
-    let right = value_before (right_in (drop (arrow.0 + 1) words)) _ sides left.2 in
-    subst (λ (sides : Sides). IsOneOrTwo sides.reactants) (some_same (record { reactants = left.0; products = right.0 }) sides _ refl right.2) (left_few (take arrow.0 words) left.0 left.1)
+    let arrow = valued (there (position is_arrow words) BadReaction) _ sides is in
+    let left = valued (left_in (take arrow.0 words)) _ sides arrow.2 in
+    let right = valued (right_in (drop (arrow.0 + 1) words)) _ sides left.2 in
+    subst (λ (sides : Sides). IsOneOrTwo sides.reactants) (same_value (record { reactants = left.0; products = right.0 }) sides _ refl right.2) (left_few (take arrow.0 words) left.0 left.1)
 
 -- what holds of both sides of a reaction
 record AreSides (count : ℕ) (sides : List ℕ × List ℕ) : Type 0 where
@@ -112,16 +96,16 @@ record AreSides (count : ℕ) (sides : List ℕ × List ℕ) : Type 0 where
 sides_are : (species words : List (List ℕ)) (sides : List ℕ × List ℕ) → sides_in species words ≡ Ok sides → AreSides (length species) sides
 unfolding sides_in
 sides_are species words sides is =
-    let arranged = value_before (arrangement_in words) _ sides is in
-    let left = value_before (numbers_in species arranged.0.reactants) _ sides arranged.2 in
-    let right = value_before (numbers_in species arranged.0.products) _ sides left.2 in
+    let arranged = valued (arrangement_in words) _ sides is in
+    let left = valued (numbers_in species arranged.0.reactants) _ sides arranged.2 in
+    let right = valued (numbers_in species arranged.0.products) _ sides left.2 in
     let few = sides_few words arranged.0 arranged.1 in
     let reactants = numbers_below species arranged.0.reactants left.0 left.1 in
     let products = numbers_below species arranged.0.products right.0 right.1 in
     let count = reactants.as_many in
     let above = few.above in
     let below = few.below in
-    subst (AreSides (length species)) (some_same (left.0, right.0) sides _ refl right.2)
+    subst (AreSides (length species)) (same_value (left.0, right.0) sides _ refl right.2)
     (record {
       order_above = omega (arith, count, above);
       order_below = omega (arith, count, below);
@@ -141,21 +125,21 @@ not_false false other = refl
 
 new_is : (known : List (List ℕ)) (word name : List ℕ) → new_name_in known word ≡ Ok name → is_named known name ≡ false
 new_is known word name is =
-    let named = test_before (is_name word) NotInProfile (unless (not (is_named known word)) RepeatedName ∷ []) (Ok word) name is in
-    let other = test_before (not (is_named known word)) RepeatedName [] (Ok word) name named.1 in
-    let same : word ≡ name = some_same word name _ refl other.1 in
+    let named = held (is_name word) NotInProfile (unless (not (is_named known word)) RepeatedName ∷ []) (Ok word) name is in
+    let other = held (not (is_named known word)) RepeatedName [] (Ok word) name named.1 in
+    let same : word ≡ name = same_value word name _ refl other.1 in
     subst (λ (name : List ℕ). is_named known name ≡ false) same (not_false (is_named known word) other.0)
 
 pub given_is : (species known : List (List ℕ)) (line : Stated) (scheme : Scheme) → reaction_in species known line ≡ Ok scheme → IsGiven species known scheme
 unfolding reaction_in
 given_is species known line scheme is =
-    let enough = test_before (nat_le 5 (length (words_of line))) WrongWordCount [] _ scheme is in
-    let name = value_before (new_name_in known (word_at line 1)) _ scheme enough.1 in
-    let sides = value_before (sides_in species (arranged_words line)) _ scheme name.2 in
-    let few = test_before (nat_le (length sides.0.1) most_products) TooMany (unless (nat_lt (length known) most_reactions) TooMany ∷ []) _ scheme sides.2 in
-    let room = test_before (nat_lt (length known) most_reactions) TooMany [] _ scheme few.1 in
+    let enough = held (nat_le 5 (length (words_of line))) WrongWordCount [] _ scheme is in
+    let name = valued (new_name_in known (word_at line 1)) _ scheme enough.1 in
+    let sides = valued (sides_in species (arranged_words line)) _ scheme name.2 in
+    let few = held (nat_le (length sides.0.1) most_products) TooMany (unless (nat_lt (length known) most_reactions) TooMany ∷ []) _ scheme sides.2 in
+    let room = held (nat_lt (length known) most_reactions) TooMany [] _ scheme few.1 in
     let are = sides_are species (arranged_words line) sides.0 sides.1 in
-    subst (IsGiven species known) (some_same (record { name = name.0; reactants = sides.0.0; products = sides.0.1 }) scheme _ refl room.1)
+    subst (IsGiven species known) (same_value (record { name = name.0; reactants = sides.0.0; products = sides.0.1 }) scheme _ refl room.1)
     (record {
       new = new_is known (word_at line 1) name.0 name.1;
       room = let test = room.0 in grind (arith, nat_tests);

@@ -1,8 +1,8 @@
-use Rattle.std.proofs.Common.{◌≡◌, ◌+◌, ◌-◌, ◌∷◌, ◌++◌, [], take, drop, slice_index_or, sym, ap, ◌∙◌, append_assoc, arith}
+use Rattle.std.proofs.Common.{◌+◌, ◌-◌, ◌∷◌, ◌++◌, [], take, drop, slice_index_or, sym, ap, ◌∙◌, append_assoc, arith}
 use Rattle.std.proofs.lemmas.Result.{err_from_is_err_and}
 use Rattle.smol_text.specs.Reading.{words_of}
 use Rattle.smol_config.specs.Motion.{still}
-use Rattle.smol_config.specs.Species.{further_words, names_fault}
+use Rattle.smol_config.specs.Species.{names_fault}
 use Rattle.smol_config.proofs.SpeciesNames.{words_from, words_to, names_fault-next, names_fault-found, pushed_still}
 use Rattle.smol_config.proofs.species.add_names.Goals as goal
 
