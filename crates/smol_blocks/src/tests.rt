@@ -5,7 +5,7 @@ use crate::surface_statement::SurfaceStatement;
 use crate::surface_table::SurfaceTable;
 use smol_geom::Rect;
 use smol_line::{NameSet, Refusal, new_name_in, spells, word_at};
-use smol_text::{StatedLine, Text, split_lines};
+use smol_text::{StatedLine, Text, TextFault, split_lines};
 use smol_types::{Action, Face, Kind};
 use std::alloc::Global;
 use std::test::Fail;
@@ -120,6 +120,13 @@ fn two_species(alloc: Global) -> Result<NameSet, Refusal> {
     Ok(species)
 }
 
+fn text_of(alloc: Global, lines: &str) -> Result<Text, TextFault> {
+    if lines.len() > 4_194_304 {
+        return Err(TextFault::OutOfMemory);
+    }
+    split_lines(alloc, lines.as_bytes())
+}
+
 fn read_block(
     alloc: Global,
     dims: u8,
@@ -147,7 +154,7 @@ fn read_block(
 fn lines_of_blocks_are_judged(rt: HostRuntime) -> Result<(), Fail> {
     let species = two_species(rt.alloc())?;
     for (dims, lines, kind) in BLOCKS {
-        let text = split_lines(rt.alloc(), lines.as_bytes())?;
+        let text = text_of(rt.alloc(), lines)?;
         let refused = read_block(rt.alloc(), dims.clamp(1, 3), &species, &text).err();
         assert_eq!(rt; refused, kind.map(Refusal::At), "{lines}");
     }
@@ -158,8 +165,8 @@ fn lines_of_blocks_are_judged(rt: HostRuntime) -> Result<(), Fail> {
 fn later_lines_replace_earlier_ones(rt: HostRuntime) -> Result<(), Fail> {
     let species = two_species(rt.alloc())?;
     let lines =
-        b"action both all r\npanel rect +x 1 0 1 a\npanel rect -0 5 2 1\naction B front absorb\njump a front <-> rect1 back\njump rect1 back -> rect1 front";
-    let text = split_lines(rt.alloc(), lines)?;
+        "action both all r\npanel rect +x 1 0 1 a\npanel rect -0 5 2 1\naction B front absorb\njump a front <-> rect1 back\njump rect1 back -> rect1 front";
+    let text = text_of(rt.alloc(), lines)?;
     let table = read_block(rt.alloc(), 2, &species, &text)?;
     let front = [Action::Reflect, Action::Absorb];
     assert_eq!(rt; table.actions.front.as_slice(), front.as_slice());
