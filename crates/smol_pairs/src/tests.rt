@@ -1,4 +1,4 @@
-ghost use Rattle.std.specs.Prelude.{◌≡◌, ◌<◌, ◌≤◌, [], ◌∷◌, All, IfOk, length, pos};
+ghost use Rattle.std.specs.Prelude.{◌≡◌, ◌<◌, ◌≤◌, [], ◌∷◌, All, IfOk, length, map, true};
 ghost use Rattle.smol_types.specs.declared.reaction.Reaction.{Reaction};
 ghost use Rattle.smol_types.specs.Reactions.{IsReaction};
 ghost use Rattle.smol_pairs.specs.Moved.{AreMoved};
@@ -146,6 +146,13 @@ fn box_with(alloc: Global, reactions: Items<Reaction>) -> Result<Config, AllocEr
     }))
 }
 
+// A list that says of each molecule that it made no reaction alone.
+fn all_free(alloc: Global, mols: &[Mol]) -> Result<Vec<bool>, AllocError>
+    ensures { IfOk result (λ free. free.items ≡ map (λ _. true) mols.now) }
+{
+    mols.iter().map(|_| true).collect(alloc)
+}
+
 // The candidates of molecules, none of which reacts alone.
 fn found<R: Threads + Sync>(
     rt: &R,
@@ -156,19 +163,8 @@ fn found<R: Threads + Sync>(
     requires moved { AreMoved config.now mols.now }
     requires two { All (λ (reaction : Reaction). length reaction.reactants ≡ 2) config.now.reactions }
 {
-    let free = vec![in alloc; true; mols.len()]?;
+    let free = all_free(alloc, mols)?;
     candidates(rt, alloc, config, mols, &free, 7, 1)
-}
-
-// A molecule at half the height of the box.
-fn at(serial: u64, species: u16, x: i64) -> Mol
-    ensures { result ≡ record { serial = serial; species = species; place = record { 0 = x ∷ pos 100000001 ∷ pos 100000001 ∷ [] } } }
-{
-    Mol {
-        serial,
-        species,
-        place: Place([x, 100_000_001, 100_000_001]),
-    }
 }
 
 fn pair(a: u64, b: u64, reaction: u16) -> Pair {
@@ -180,10 +176,26 @@ fn all_pairs_of_four_molecules_at_one_place(rt: HostRuntime) -> Result<(), Fail>
     let alloc = rt.alloc();
     let config = box_with(alloc, one(alloc, binding(alloc, 0, 0, 1)?)?)?;
     let mols = [
-        at(1, 0, 100_000_001),
-        at(2, 0, 100_000_001),
-        at(3, 0, 100_000_001),
-        at(4, 0, 100_000_001),
+        Mol {
+            serial: 1,
+            species: 0,
+            place: Place([100_000_001, 100_000_001, 100_000_001]),
+        },
+        Mol {
+            serial: 2,
+            species: 0,
+            place: Place([100_000_001, 100_000_001, 100_000_001]),
+        },
+        Mol {
+            serial: 3,
+            species: 0,
+            place: Place([100_000_001, 100_000_001, 100_000_001]),
+        },
+        Mol {
+            serial: 4,
+            species: 0,
+            place: Place([100_000_001, 100_000_001, 100_000_001]),
+        },
     ];
     let pairs = found(&rt, alloc, &config, &mols)?;
     let want = [
@@ -202,7 +214,23 @@ fn all_pairs_of_four_molecules_at_one_place(rt: HostRuntime) -> Result<(), Fail>
 fn molecules_as_far_apart_as_the_radius_may_react(rt: HostRuntime) -> Result<(), Fail> {
     let alloc = rt.alloc();
     let config = box_with(alloc, one(alloc, binding(alloc, 0, 1, 1)?)?)?;
-    let mols = [at(1, 0, 1), at(2, 1, 2_000_001), at(3, 0, 4_000_001)];
+    let mols = [
+        Mol {
+            serial: 1,
+            species: 0,
+            place: Place([1, 100_000_001, 100_000_001]),
+        },
+        Mol {
+            serial: 2,
+            species: 1,
+            place: Place([2_000_001, 100_000_001, 100_000_001]),
+        },
+        Mol {
+            serial: 3,
+            species: 0,
+            place: Place([4_000_001, 100_000_001, 100_000_001]),
+        },
+    ];
     let pairs = found(&rt, alloc, &config, &mols)?;
     assert_eq!(rt; pairs.as_slice(), [pair(1, 2, 0), pair(2, 3, 0)].as_slice());
     Ok(())
@@ -215,7 +243,18 @@ fn a_pair_is_listed_for_each_of_its_reactions(rt: HostRuntime) -> Result<(), Fai
         alloc,
         two(alloc, binding(alloc, 0, 1, 1)?, binding(alloc, 1, 0, 1)?)?,
     )?;
-    let mols = [at(1, 0, 100_000_001), at(2, 1, 100_000_001)];
+    let mols = [
+        Mol {
+            serial: 1,
+            species: 0,
+            place: Place([100_000_001, 100_000_001, 100_000_001]),
+        },
+        Mol {
+            serial: 2,
+            species: 1,
+            place: Place([100_000_001, 100_000_001, 100_000_001]),
+        },
+    ];
     let pairs = found(&rt, alloc, &config, &mols)?;
     assert_eq!(rt; pairs.as_slice(), [pair(1, 2, 0), pair(1, 2, 1)].as_slice());
     Ok(())
@@ -225,7 +264,18 @@ fn a_pair_is_listed_for_each_of_its_reactions(rt: HostRuntime) -> Result<(), Fai
 fn a_panel_hides_a_pair(rt: HostRuntime) -> Result<(), Fail> {
     let alloc = rt.alloc();
     let config = box_with(alloc, one(alloc, binding(alloc, 0, 1, 2)?)?)?;
-    let mols = [at(1, 0, 99_000_001), at(2, 1, 101_000_001)];
+    let mols = [
+        Mol {
+            serial: 1,
+            species: 0,
+            place: Place([99_000_001, 100_000_001, 100_000_001]),
+        },
+        Mol {
+            serial: 2,
+            species: 1,
+            place: Place([101_000_001, 100_000_001, 100_000_001]),
+        },
+    ];
     let pairs = found(&rt, alloc, &config, &mols)?;
     assert_eq!(rt; pairs.len(), 0);
     Ok(())
