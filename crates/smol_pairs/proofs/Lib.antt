@@ -1,3 +1,4 @@
 pub mod Distances
 pub mod Meetings
 pub mod Passing
+pub mod TestedBox
