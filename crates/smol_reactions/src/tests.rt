@@ -263,16 +263,23 @@ fn the_nearest_lines_count(rt: HostRuntime) -> Result<(), Fail> {
     );
     assert_eq!(rt; split.placement, Placement::Offsets);
     assert_eq!(rt; pair.placement, Placement::Unbind(3_000_000));
-    let offsets = [
-        (1, Step3([4_000_000, -1_000_000, 2])),
-        (0, Step3([0, 0, 0])),
-        (3, Step3([2_000_000, 2_000_000, 2_000_000])),
-        (1, Step3([0, 2_000_000_000, -2_000_000_000])),
-    ];
-    for i in 0..4 {
-        let product = &split.products.as_slice()[i];
-        assert_eq!(rt; (product.species, product.offset), offsets[i]);
-    }
+    let [first, second, third, fourth] = split.products.as_slice() else {
+        assert!(rt; false);
+        return Ok(());
+    };
+    assert_eq!(rt;
+        (first.species, first.offset),
+        (1, Step3([4_000_000, -1_000_000, 2]))
+    );
+    assert_eq!(rt; (second.species, second.offset), (0, Step3([0, 0, 0])));
+    assert_eq!(rt;
+        (third.species, third.offset),
+        (3, Step3([2_000_000, 2_000_000, 2_000_000]))
+    );
+    assert_eq!(rt;
+        (fourth.species, fourth.offset),
+        (1, Step3([0, 2_000_000_000, -2_000_000_000]))
+    );
     assert_eq!(rt; (table.chance_sum(0), table.chance_sum(1)), (15, 0));
     Ok(())
 }
