@@ -28,7 +28,7 @@ file_safe seed (Some text) = text_safe seed text
 
 job_safe : (job : Option Job) (words : List (List ℕ)) (contents : List ℕ → Option (List ℕ)) → JobGoesSafely job words contents
 job_safe None words contents = tt
-job_safe (Some (File index seed)) words contents = file_safe seed (contents (slice_index_or words index []))
+job_safe (Some (File index seed workers)) words contents = file_safe seed (contents (slice_index_or words index []))
 
 -- whatever the words and the files are
 pub all_safe : (job : Option Job) (words : List (List ℕ)) (a : Option Reading) → IfSome a (λ reading. JobGoesSafely job words reading.contents)

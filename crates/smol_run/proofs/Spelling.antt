@@ -1,18 +1,19 @@
--- Words ask for a run exactly where they spell items with one name and at most one seed.
+-- Words ask for a run exactly where they spell items with one name, at most one seed and at most one number of workers.
 use Rattle.std.proofs.Common.{◌≡◌, ◌+◌, ◌↔◌, inl, inr, ℕ, Bool, if◌then◌else◌, true, false, List, [], ◌∷◌, Option, Some, None, refl, sym, ◌∙◌, ap}
-use Rattle.std.specs.Prelude.{codes}
-use Rattle.std.specs.Option.{option_map, option_to_list}
+use Rattle.std.specs.Prelude.{codes, unwrap_or}
+use Rattle.std.specs.Option.{option_and_then, option_map, option_to_list}
 use Rattle.std.specs.Str.{bytes_eq}
 use Rattle.std.proofs.lemmas.Bool.{cases_Bool}
 use Rattle.std.proofs.lemmas.Option.{option_and_then_some}
 use Rattle.std.proofs.lemmas.Slice.Eq.{bytes_eq-Decides}
 use Rattle.smol_run.specs.declared.words.Item.{Item}
-use Rattle.smol_run.specs.declared.words.Item.TheVariants.{Name, Seed}
+use Rattle.smol_run.specs.declared.words.Item.TheVariants.{Name, Seed, Workers}
 use Rattle.smol_run.specs.declared.words.Job.TheVariants.{File}
-use Rattle.smol_run.specs.Words.{is_file_name, item_of_two, items_of, job_of, joined_items, names_in, file_job, seed_in, seeds_in}
+use Rattle.smol_run.specs.Words.{is_file_name, item_of_two, items_of, job_by, job_of, joined_items, names_in, only_entry, optional_entry, file_job, seed_in, seeds_in, worker_counts_in, workers_in}
 use Rattle.smol_run.proofs.Items.{items_of-name, items_of-two}
 
--- the words spell the items in order, where the first word has this index: a name by itself, and a seed behind its word
+-- the words spell the items in order, where the first word has this index: a name by itself, and a seed
+-- or a number of workers behind its word
 abbrev pub Spell : ℕ → List Item → List (List ℕ) → Type 0
 Spell index [] words = words ≡ []
 Spell index (Name place ∷ items) words =
@@ -20,6 +21,9 @@ Spell index (Name place ∷ items) words =
     × Spell (index + 1) items others
 Spell index (Seed seed ∷ items) words =
     (number : List ℕ) × (others : List (List ℕ)) × (words ≡ codes "--seed" ∷ number ∷ others) × (seed_in number ≡ Some seed)
+    × Spell (index + 2) items others
+Spell index (Workers workers ∷ items) words =
+    (number : List ℕ) × (others : List (List ℕ)) × (words ≡ codes "--workers" ∷ number ∷ others) × (workers_in number ≡ Some workers)
     × Spell (index + 2) items others
 
 -- words that spell items have them
@@ -29,6 +33,8 @@ items_of-Spell index (Name place ∷ items) words spell =
     rw (spell.2, items_of-name index spell.0 spell.1 spell.3, items_of-Spell (index + 1) items spell.1 spell.5, spell.4) refl
 items_of-Spell index (Seed seed ∷ items) words spell =
     rw (spell.2, items_of-Spell (index + 2) items spell.1 spell.4, spell.3) refl
+items_of-Spell index (Workers workers ∷ items) words spell =
+    rw (spell.2, items_of-Spell (index + 2) items spell.1 spell.4, spell.3) refl
 
 -- an item before others, where all are there, is the first of the list
 joined_items_is : (first : Option Item) (rest : Option (List Item)) (items : List Item) → joined_items first rest ≡ Some items → (item : Item) × (others : List Item) × (first ≡ Some item) × (rest ≡ Some others) × (items ≡ item ∷ others)
@@ -36,11 +42,21 @@ joined_items_is None rest items is = absurd (cc)
 joined_items_is (Some item) None items is = absurd (cc)
 joined_items_is (Some item) (Some others) items is = (item, others, refl, refl, cc)
 
--- an item of two words is a seed behind its word
-item_of_two_by : (word number : List ℕ) (item : Item) (says : Bool) (seed : Option ℕ) → bytes_eq word (codes "--seed") ≡ says → seed_in number ≡ seed → (if says then option_map Seed seed else None) ≡ Some item → (value : ℕ) × (word ≡ codes "--seed") × (seed_in number ≡ Some value) × (item ≡ Seed value)
-item_of_two_by word number item true (Some value) says is found = (value, (bytes_eq-Decides word (codes "--seed")).0 says, is, cc)
-item_of_two_by word number item true None says is found = absurd (cc)
-item_of_two_by word number item false seed says is found = absurd (cc)
+-- an item of two words is a seed or a number of workers behind its word
+spell_item_by : (index : ℕ) (word number : List ℕ) (others : List (List ℕ)) (item : Item) (rest : List Item) (says_seed says_workers : Bool)
+    (seed workers : Option ℕ) → bytes_eq word (codes "--seed") ≡ says_seed → bytes_eq word (codes "--workers") ≡ says_workers
+    → seed_in number ≡ seed → workers_in number ≡ workers
+    → (if says_seed then option_map Seed seed else (if says_workers then option_map Workers workers else None)) ≡ Some item
+    → Spell (index + 2) rest others → Spell index (item ∷ rest) (word ∷ number ∷ others)
+spell_item_by index word number others item rest true says_workers (Some value) workers as_seed as_workers seed_is workers_is is deeper =
+    let same : item ≡ Seed value = cc in
+    rw same (number, others, ap (λ first. first ∷ number ∷ others) ((bytes_eq-Decides word (codes "--seed")).0 as_seed), seed_is, deeper)
+spell_item_by index word number others item rest true says_workers None workers as_seed as_workers seed_is workers_is is deeper = absurd (cc)
+spell_item_by index word number others item rest false true seed (Some value) as_seed as_workers seed_is workers_is is deeper =
+    let same : item ≡ Workers value = cc in
+    rw same (number, others, ap (λ first. first ∷ number ∷ others) ((bytes_eq-Decides word (codes "--workers")).0 as_workers), workers_is, deeper)
+spell_item_by index word number others item rest false true seed None as_seed as_workers seed_is workers_is is deeper = absurd (cc)
+spell_item_by index word number others item rest false false seed workers as_seed as_workers seed_is workers_is is deeper = absurd (cc)
 
 -- a name and what is behind it
 spell_name : (index : ℕ) (word : List ℕ) (others : List (List ℕ)) (items : List Item) → is_file_name word ≡ true → ((rest : List Item) → items_of (index + 1) others ≡ Some rest → Spell (index + 1) rest others) → items_of index (word ∷ others) ≡ Some items → Spell index items (word ∷ others)
@@ -49,13 +65,13 @@ spell_name index word others items named deeper is =
     let whole : items ≡ Name index ∷ parts.1 = cc (parts.2, parts.4) in
     rw whole (word, others, refl, named, refl, deeper parts.1 parts.3)
 
--- a seed behind its word and what is behind both
-spell_seed : (index : ℕ) (word behind : List ℕ) (others : List (List ℕ)) (items : List Item) → is_file_name word ≡ false → ((rest : List Item) → items_of (index + 2) others ≡ Some rest → Spell (index + 2) rest others) → items_of index (word ∷ behind ∷ others) ≡ Some items → Spell index items (word ∷ behind ∷ others)
-spell_seed index word behind others items not deeper is =
+-- two words that are an item and what is behind both
+spell_two : (index : ℕ) (word behind : List ℕ) (others : List (List ℕ)) (items : List Item) → is_file_name word ≡ false → ((rest : List Item) → items_of (index + 2) others ≡ Some rest → Spell (index + 2) rest others) → items_of index (word ∷ behind ∷ others) ≡ Some items → Spell index items (word ∷ behind ∷ others)
+spell_two index word behind others items not deeper is =
     let parts = joined_items_is (item_of_two word behind) (items_of (index + 2) others) items (sym (items_of-two index word behind others not) ∙ is) in
-    let two = item_of_two_by word behind parts.0 (bytes_eq word (codes "--seed")) (seed_in behind) refl refl parts.2 in
-    let whole : items ≡ Seed two.0 ∷ parts.1 = cc (two.3, parts.4) in
-    rw whole (behind, others, ap (λ first. first ∷ behind ∷ others) two.1, two.2, deeper parts.1 parts.3)
+    rw parts.4
+    (spell_item_by index word behind others parts.0 parts.1 (bytes_eq word (codes "--seed")) (bytes_eq word (codes "--workers"))
+    (seed_in behind) (workers_in behind) refl refl refl refl parts.2 (deeper parts.1 parts.3))
 
 -- words that have items spell them
 pub Spell-items_of : (index : ℕ) (words : List (List ℕ)) (items : List Item) → items_of index words ≡ Some items → Spell index items words
@@ -70,38 +86,66 @@ Spell-items_of index (word ∷ []) items is =
 Spell-items_of index (word ∷ behind ∷ words) items is =
     elim (cases_Bool (is_file_name word)) [
       | inl named ↦ spell_name index word (behind ∷ words) items named (λ rest. Spell-items_of (index + 1) (behind ∷ words) rest) is
-      | inr not ↦ spell_seed index word behind words items not (λ rest. Spell-items_of (index + 2) words rest) is
+      | inr not ↦ spell_two index word behind words items not (λ rest. Spell-items_of (index + 2) words rest) is
     ]
 
--- the words spell items of which this is the only name, and this the only seed or none is one
-pub record AskForRun (words : List (List ℕ)) (index : ℕ) (seed : Option ℕ) : Type 0 where
+-- the words spell items of which this is the only name, this the only seed or none is one, and these are the only workers, or no
+-- item says how many and there is one
+pub record AskForRun (words : List (List ℕ)) (index : ℕ) (seed : Option ℕ) (workers : ℕ) : Type 0 where
   pub items : List Item
   pub spell : Spell 0 items words
   pub one_name : names_in items ≡ index ∷ []
   pub seed_is : seeds_in items ≡ option_to_list seed
+  pub given : Option ℕ
+  pub given_is : worker_counts_in items ≡ option_to_list given
+  pub workers_are : workers ≡ unwrap_or given 1
 
--- lists with exactly one name and at most one seed
-file_job_is : (names seeds : List ℕ) (index : ℕ) (seed : Option ℕ) → file_job names seeds ≡ Some (File index seed) → (names ≡ index ∷ []) × (seeds ≡ option_to_list seed)
-file_job_is [] seeds index seed is = absurd (cc)
-file_job_is (name ∷ []) [] index seed is =
-    let none : seed ≡ None = cc in
-    (cc, rw none refl)
-file_job_is (name ∷ []) (given ∷ []) index seed is =
-    let some : seed ≡ Some given = cc in
-    (cc, rw some refl)
-file_job_is (name ∷ []) (given ∷ second ∷ seeds) index seed is = absurd (cc)
-file_job_is (name ∷ second ∷ names) seeds index seed is = absurd (cc)
+-- the list with this only entry
+only_entry_is : (entries : List ℕ) (entry : ℕ) → only_entry entries ≡ Some entry → entries ≡ entry ∷ []
+only_entry_is [] entry is = absurd (cc)
+only_entry_is (first ∷ []) entry is = cc
+only_entry_is (first ∷ second ∷ entries) entry is = absurd (cc)
 
-file_job-only : (index : ℕ) (seed : Option ℕ) → file_job (index ∷ []) (option_to_list seed) ≡ Some (File index seed)
-file_job-only index None = refl
-file_job-only index (Some seed) = refl
+-- the list with this entry or none
+optional_entry_is : (entries : List ℕ) (entry : Option ℕ) → optional_entry entries ≡ Some entry → entries ≡ option_to_list entry
+optional_entry_is [] entry is =
+    let none : entry ≡ None = cc in
+    rw none refl
+optional_entry_is (first ∷ []) entry is =
+    let some : entry ≡ Some first = cc in
+    rw some refl
+optional_entry_is (first ∷ second ∷ entries) entry is = absurd (cc)
 
--- words ask for a run exactly where they spell one name and at most one seed
-pub job_of-AskForRun : (words : List (List ℕ)) (index : ℕ) (seed : Option ℕ) → (job_of words ≡ Some (File index seed)) ↔ AskForRun words index seed
-job_of-AskForRun words index seed = (
-  (λ asks. option_and_then_some (λ items. file_job (names_in items) (seeds_in items)) (items_of 0 words) (File index seed) asks
+-- a job has a name, may have a seed, and has the workers that are given or one
+job_has : (name : Option ℕ) (seeds worker_counts : Option (Option ℕ)) (index : ℕ) (seed : Option ℕ) (workers : ℕ)
+    → option_and_then (λ index. option_and_then (λ seed. option_map (job_by index seed) worker_counts) seeds) name ≡ Some (File index seed workers)
+    → (name ≡ Some index) × (seeds ≡ Some seed) × (given : Option ℕ) × (worker_counts ≡ Some given) × (workers ≡ unwrap_or given 1)
+job_has None seeds worker_counts index seed workers is = absurd (cc)
+job_has (Some name) None worker_counts index seed workers is = absurd (cc)
+job_has (Some name) (Some chosen) None index seed workers is = absurd (cc)
+job_has (Some name) (Some chosen) (Some given) index seed workers is = (cc, cc, given, refl, cc)
+
+-- the one name, at most one seed and at most one number of workers make the job of these
+file_job-only : (index : ℕ) (seed given : Option ℕ) → file_job (index ∷ []) (option_to_list seed) (option_to_list given) ≡ Some (File index seed (unwrap_or given 1))
+file_job-only index None None = refl
+file_job-only index None (Some given) = refl
+file_job-only index (Some seed) None = refl
+file_job-only index (Some seed) (Some given) = refl
+
+-- words ask for a run exactly where they spell one name, at most one seed and at most one number of workers
+pub job_of-AskForRun : (words : List (List ℕ)) (index : ℕ) (seed : Option ℕ) (workers : ℕ) → (job_of words ≡ Some (File index seed workers)) ↔ AskForRun words index seed workers
+job_of-AskForRun words index seed workers = (
+  (λ asks. option_and_then_some (λ items. file_job (names_in items) (seeds_in items) (worker_counts_in items)) (items_of 0 words) (File index seed workers) asks
       (λ items have is.
-      let lists = file_job_is (names_in items) (seeds_in items) index seed is in
-      record { items = items; spell = Spell-items_of 0 words items have; one_name = lists.0; seed_is = lists.1 })),
-  (λ asks. rw (items_of-Spell 0 asks.items words asks.spell, asks.one_name, asks.seed_is) (file_job-only index seed)),
+      let parts = job_has (only_entry (names_in items)) (optional_entry (seeds_in items)) (optional_entry (worker_counts_in items)) index seed workers is in
+      record {
+        items = items;
+        spell = Spell-items_of 0 words items have;
+        one_name = only_entry_is (names_in items) index parts.0;
+        seed_is = optional_entry_is (seeds_in items) seed parts.1;
+        given = parts.2;
+        given_is = optional_entry_is (worker_counts_in items) parts.2 parts.3;
+        workers_are = parts.4;
+      })),
+  (λ asks. rw (items_of-Spell 0 asks.items words asks.spell, asks.one_name, asks.seed_is, asks.given_is, asks.workers_are) (file_job-only index seed asks.given)),
 )

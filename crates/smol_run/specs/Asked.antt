@@ -11,4 +11,4 @@ AsksOnce name before after = (after.asked ≡ before.asked) ⊎ (after.asked ≡
 -- of the source only the file that the words name was asked for, and that once at most
 abbrev pub AsksForJob : Option Job → List (List ℕ) → Reading → Reading → Type 0
 AsksForJob None words before after = after ≡ before
-AsksForJob (Some (File index seed)) words before after = AsksOnce (slice_index_or words index []) before after
+AsksForJob (Some (File index seed workers)) words before after = AsksOnce (slice_index_or words index []) before after

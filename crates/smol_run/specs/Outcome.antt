@@ -32,7 +32,7 @@ abbrev pub misused : Outcome
 misused = record {
   status = status.Usage;
   names = [];
-  pieces = error_line (codes "usage: smol FILE [--seed N] [--workers N] or smol --make N");
+  pieces = error_line (codes "usage: smol FILE [--seed N] [--workers N]");
 }
 
 -- the text is refused at a line, or as a whole at line 0
@@ -83,7 +83,7 @@ outcome_of_file seed (Some text) = Some (outcome_of_text seed text)
 -- the text is the contents of the file that is named
 abbrev pub outcome_of_job : Option Job → List (List ℕ) → (List ℕ → Option (List ℕ)) → Option Outcome
 outcome_of_job None words contents = Some misused
-outcome_of_job (Some (File index seed)) words contents = outcome_of_file seed (contents (slice_index_or words index []))
+outcome_of_job (Some (File index seed workers)) words contents = outcome_of_file seed (contents (slice_index_or words index []))
 
 -- what the words of the command line give over these files
 abbrev pub outcome_of : List (List ℕ) → (List ℕ → Option (List ℕ)) → Option Outcome

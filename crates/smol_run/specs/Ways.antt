@@ -34,4 +34,4 @@ FileGoesSafely seed (Some text) = TextGoesSafely seed text
 -- the run that the words ask for over these files goes safely, where there is one
 abbrev pub JobGoesSafely : Option Job → List (List ℕ) → (List ℕ → Option (List ℕ)) → Type 0
 JobGoesSafely None words contents = Unit {0}
-JobGoesSafely (Some (File index seed)) words contents = FileGoesSafely seed (contents (slice_index_or words index []))
+JobGoesSafely (Some (File index seed workers)) words contents = FileGoesSafely seed (contents (slice_index_or words index []))

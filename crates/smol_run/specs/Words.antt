@@ -1,14 +1,15 @@
 -- What the words of the command line ask for.
-use Rattle.std.specs.Prelude.{◌≡◌, ℕ, ◌+◌, ◌<◌, ◌≤◌, Bool, false, not, nat_eq, if◌then◌else◌, List, [], ◌∷◌, Option, None, Some, IsSome, codes, length, drop}
+use Rattle.std.specs.Prelude.{◌≡◌, ℕ, ◌+◌, ◌<◌, ◌≤◌, Bool, false, not, nat_eq, unwrap_or, if◌then◌else◌, List, [], ◌∷◌, Option, None, Some, IsSome, codes, length, drop}
 use Rattle.std.specs.List.{starts_with}
 use Rattle.std.specs.Option.{option_map, option_and_then}
 use Rattle.std.specs.Result.{result_ok}
 use Rattle.std.specs.Str.{bytes_eq}
 use Rattle.smol_num.specs.Digits.{count_of}
+use Rattle.smol_line.specs.Numbers.{count_in}
 use Rattle.smol_run.specs.declared.words.Job.{Job}
 use Rattle.smol_run.specs.declared.words.Job.TheVariants.{File}
 use Rattle.smol_run.specs.declared.words.Item.{Item}
-use Rattle.smol_run.specs.declared.words.Item.TheVariants.{Name, Seed}
+use Rattle.smol_run.specs.declared.words.Item.TheVariants.{Name, Seed, Workers}
 use Rattle.smol_run.specs.declared.words.Found.{Found}
 
 -- no file's name is empty or begins with two dashes
@@ -20,9 +21,15 @@ is_file_name (byte ∷ bytes) = not (starts_with nat_eq (byte ∷ bytes) (codes 
 abbrev pub seed_in : List ℕ → Option ℕ
 seed_in word = result_ok (count_of word 18446744073709551615)
 
+-- a number of workers: 1 to 20 decimal digits, from 1 to 16
+abbrev pub workers_in : List ℕ → Option ℕ
+workers_in word = result_ok (count_in 1 16 word)
+
 -- a word that says what the number behind it is
 abbrev pub item_of_two : List ℕ → List ℕ → Option Item
-item_of_two word number = if bytes_eq word (codes "--seed") then option_map Seed (seed_in number) else None
+item_of_two word number =
+    if bytes_eq word (codes "--seed") then option_map Seed (seed_in number)
+    else (if bytes_eq word (codes "--workers") then option_map Workers (workers_in number) else None)
 
 -- an item before others, where all are there
 abbrev pub joined_items : Option Item → Option (List Item) → Option (List Item)
@@ -42,12 +49,21 @@ abbrev pub names_in : List Item → List ℕ
 names_in [] = []
 names_in (Name index ∷ items) = index ∷ names_in items
 names_in (Seed seed ∷ items) = names_in items
+names_in (Workers workers ∷ items) = names_in items
 
 -- the seeds among the items
 abbrev pub seeds_in : List Item → List ℕ
 seeds_in [] = []
 seeds_in (Name index ∷ items) = seeds_in items
 seeds_in (Seed seed ∷ items) = seed ∷ seeds_in items
+seeds_in (Workers workers ∷ items) = seeds_in items
+
+-- the numbers of workers among the items
+abbrev pub worker_counts_in : List Item → List ℕ
+worker_counts_in [] = []
+worker_counts_in (Name index ∷ items) = worker_counts_in items
+worker_counts_in (Seed seed ∷ items) = worker_counts_in items
+worker_counts_in (Workers workers ∷ items) = workers ∷ worker_counts_in items
 
 -- the entry of a list that has exactly one
 abbrev pub only_entry : List ℕ → Option ℕ
@@ -61,40 +77,66 @@ optional_entry [] = Some None
 optional_entry (entry ∷ []) = Some (Some entry)
 optional_entry (first ∷ second ∷ entries) = None
 
--- exactly one name, and at most one seed, ask for a run of that file
-abbrev pub file_job : List ℕ → List ℕ → Option Job
-file_job names seeds = option_and_then (λ index. option_map (λ seed. File index seed) (optional_entry seeds)) (only_entry names)
+-- a run of the file of this name with this seed or none, by the workers that are given, or else by one
+abbrev pub job_by : ℕ → Option ℕ → Option ℕ → Job
+job_by index seed given = File index seed (unwrap_or given 1)
+
+-- exactly one name, at most one seed and at most one number of workers ask for a run of that file
+abbrev pub file_job : List ℕ → List ℕ → List ℕ → Option Job
+file_job names seeds worker_counts =
+    option_and_then (λ index. option_and_then (λ seed. option_map (job_by index seed) (optional_entry worker_counts)) (optional_entry seeds))
+    (only_entry names)
 
 -- words that spell items ask for what the items ask for. Every other list of words is refused
 abbrev pub job_of : List (List ℕ) → Option Job
-job_of words = option_and_then (λ items. file_job (names_in items) (seeds_in items)) (items_of 0 words)
+job_of words = option_and_then (λ items. file_job (names_in items) (seeds_in items) (worker_counts_in items)) (items_of 0 words)
 
 -- the file's name is one of so many words
 abbrev pub NamesWord : ℕ → Job → Type 0
-NamesWord count (File index seed) = index < count
+NamesWord count (File index seed workers) = index < count
+
+-- there are 1 to 16 workers
+pub record AreWorkers (workers : ℕ) : Type 0 where
+  pub least : 1 ≤ workers
+  pub most : workers ≤ 16
+
+-- 1 to 16 workers run the file
+abbrev pub RunsByWorkers : Job → Type 0
+RunsByWorkers (File index seed workers) = AreWorkers workers
 
 -- how many words spell the item
 abbrev pub item_len : Item → ℕ
 item_len (Name index) = 1
 item_len (Seed seed) = 2
+item_len (Workers workers) = 2
 
 -- a name is one of so many words
 abbrev pub NamesWithin : ℕ → Item → Type 0
 NamesWithin count (Name index) = index < count
 NamesWithin count (Seed seed) = Unit {0}
+NamesWithin count (Workers workers) = Unit {0}
+
+-- workers are 1 to 16
+abbrev pub WorkersWithin : Item → Type 0
+WorkersWithin (Name index) = Unit {0}
+WorkersWithin (Seed seed) = Unit {0}
+WorkersWithin (Workers workers) = AreWorkers workers
 
 -- the item is what the words spell first, from this index on
 pub record StandsAt (item : Item) (index : ℕ) (words : List (List ℕ)) : Type 0 where
   pub fits : index + item_len item ≤ length words
   pub within : NamesWithin (length words) item
+  pub workers : WorkersWithin item
   pub first : items_of index (drop index words) ≡ joined_items (Some item) (items_of (index + item_len item) (drop (index + item_len item) words))
 
 -- the item was found, as the first of its kind
 abbrev pub Finds : Item → Found → Found → Type 0
 Finds (Name index) old new = (old.name ≡ None) × (new ≡ record old { name = Some index })
 Finds (Seed seed) old new = (old.seed ≡ None) × (new ≡ record old { seed = Some seed })
+Finds (Workers workers) old new = (old.workers ≡ None) × (new ≡ record old { workers = Some workers })
 
 -- one of its kind was found before
 abbrev pub IsSecond : Item → Found → Type 0
 IsSecond (Name index) found = IsSome found.name
 IsSecond (Seed seed) found = IsSome found.seed
+IsSecond (Workers workers) found = IsSome found.workers

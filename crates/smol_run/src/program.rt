@@ -1,5 +1,5 @@
 //! The top call.
-ghost use Rattle.std.specs.Prelude.{◌≡◌, ◌≢◌, None, map, string_bytes, IfOk, IfSome};
+ghost use Rattle.std.specs.Prelude.{◌≡◌, ◌≢◌, ◌≤◌, None, map, string_bytes, IfOk, IfSome};
 ghost use Rattle.smol_edge.specs.Faults.{Rose, Tells};
 ghost use Rattle.smol_run.specs.Words.{job_of};
 ghost use Rattle.smol_run.specs.Asked.{AsksForJob, AsksOnce};
@@ -22,12 +22,11 @@ use std::thread::Threads;
 /// How long a configuration may be, in bytes.
 const MOST_BYTES: usize = 4_194_304;
 
-const USAGE: &[u8] = b"usage: smol FILE [--seed N] [--workers N] or smol --make N\n";
+const USAGE: &[u8] = b"usage: smol FILE [--seed N] [--workers N]\n";
 
 /// Runs what the words of the command line ask for over a source and outlets, and answers the exit status.
 /// Files are read from the source. Lines for people who read along go to outlet 1, the rest where the
 /// configuration says. Outlets that aren't 0 or 1 are opened by this call.
-#[tactic(auto, using(crate::proofs::Safety::all_safe))]
 pub fn run_program<R: Threads + Sync, S: Source, K: Outlets, G: Gate + Sync>(
     rt: &R,
     alloc: Global,
@@ -97,12 +96,19 @@ fn run_words<R: Threads + Sync, S: Source, K: Outlets, G: Gate + Sync>(
     ensures writes { CountsWrites result (K.faults outlets.old) (K.faults outlets.new) }
 {
     match read_words(words) {
-        Ok(Job::File { index, seed }) => {
+        Ok(
+            Job::File {
+                index,
+                seed,
+                workers,
+            },
+        ) => {
             run_file(
                 rt,
                 alloc,
                 words[index].as_str(),
                 seed,
+                workers,
                 source,
                 outlets,
                 gate,
@@ -132,39 +138,53 @@ fn seed_of(given: Option<u64>, config: &Config) -> u64
     given.or(config.seed()).unwrap_or(0)
 }
 
-// Runs a text that isn't too long, with the seed that the words give.
+// Runs a text that isn't too long, with the seed and by the workers that the words give.
 fn run_text<R: Threads + Sync, K: Outlets, G: Gate + Sync>(
     rt: &R,
     alloc: Global,
     bytes: &[u8],
     seed: Option<u64>,
+    workers: u32,
     outlets: &mut K,
     gate: &G,
 ) -> Result<Status, Loss>
-    requires { K.opened outlets.old ≡ 0 }
+    requires opened { K.opened outlets.old ≡ 0 }
+    requires least { 1 ≤ workers }
+    requires most { workers ≤ 16 }
     ensures ended { Tells (K.told outlets.old) (K.told outlets.new) (GoesWith (outcome_of_text seed bytes.now) result) }
     ensures status { IfOk result IsRun }
     ensures faults { CountsLoss result (K.faults outlets.old) (K.faults outlets.new) }
 {
     match read_config(alloc, bytes) {
-        Ok(config) => run_config(rt, alloc, &config, seed_of(seed, &config), outlets, gate),
+        Ok(config) => run_config(
+            rt,
+            alloc,
+            &config,
+            seed_of(seed, &config),
+            workers,
+            outlets,
+            gate,
+        ),
         Err(ConfigFault::At { line, kind }) => refuse(alloc, outlets, line, kind.text()),
         Err(ConfigFault::OutOfMemory) => Err(Loss::Memory),
     }
 }
 
-// Runs the file of this name, with the seed that the words give.
+// Runs the file of this name, with the seed and by the workers that the words give.
 #[tactic(auto, using(crate::proofs::Files::opened_is_there))]
 fn run_file<R: Threads + Sync, S: Source, K: Outlets, G: Gate + Sync>(
     rt: &R,
     alloc: Global,
     name: &str,
     seed: Option<u64>,
+    workers: u32,
     source: &mut S,
     outlets: &mut K,
     gate: &G,
 ) -> Result<Status, Stop>
-    requires { K.opened outlets.old ≡ 0 }
+    requires opened { K.opened outlets.old ≡ 0 }
+    requires least { 1 ≤ workers }
+    requires most { workers ≤ 16 }
     ensures ended { IfSome (S.told source.old) (λ reading. Tells (K.told outlets.old) (K.told outlets.new)
         (GoesWithSome (outcome_of_file seed (reading.contents name.now)) result)) }
     ensures absent { IfSome (S.told source.old) (λ reading. reading.contents name.now ≡ None → IsUnread result) }
@@ -177,7 +197,7 @@ fn run_file<R: Threads + Sync, S: Source, K: Outlets, G: Gate + Sync>(
         return Err(Stop::Input);
     };
     match take_all(alloc, source, MOST_BYTES) {
-        Ok(text) => Ok(run_text(rt, alloc, &text, seed, outlets, gate)?),
+        Ok(text) => Ok(run_text(rt, alloc, &text, seed, workers, outlets, gate)?),
         Err(TakeFault::TooLong) => Ok(refuse(alloc, outlets, 0, Kind::TooLong.text())?),
         Err(TakeFault::ReadFault) => Err(Stop::Input),
         Err(TakeFault::OutOfMemory) => Err(Stop::Memory),

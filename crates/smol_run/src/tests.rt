@@ -21,7 +21,7 @@ const LINES: [&str; 11] = [
     "cmd a molcount stdout",
 ];
 
-const USAGE: &str = "usage: smol FILE [--seed N] [--workers N] or smol --make N\n";
+const USAGE: &str = "usage: smol FILE [--seed N] [--workers N]\n";
 
 /// A call over a source with the one file `f`, and how it is to end.
 #[derive(Clone, Copy)]
@@ -157,6 +157,38 @@ fn ends_with_status_and_bytes(rt: HostRuntime) -> Result<(), Fail> {
         },
         Row {
             words: &["f", "--workers", "1"],
+            ..counted
+        },
+        Row {
+            words: &["--workers", "16", "f"],
+            ..counted
+        },
+        Row {
+            words: &["--seed", "1", "--workers", "000001", "f"],
+            ..counted
+        },
+        Row {
+            words: &["--workers", "2", "f", "--seed", "1"],
+            ..counted
+        },
+        Row {
+            words: &["f", "--workers", "2", "--workers", "2"],
+            ..misused
+        },
+        Row {
+            words: &["f", "--workers", "0"],
+            ..misused
+        },
+        Row {
+            words: &["f", "--workers", "17"],
+            ..misused
+        },
+        Row {
+            words: &["f", "--workers", "two"],
+            ..misused
+        },
+        Row {
+            words: &["f", "--workers"],
             ..misused
         },
         Row {
@@ -415,6 +447,11 @@ fn molecules_go_step_by_step(rt: HostRuntime) -> Result<(), Fail> {
         stderr: "",
     };
     meets(&rt, &row)?;
+    let by_workers = Row {
+        words: &["f", "--workers", "16"],
+        ..row
+    };
+    meets(&rt, &by_workers)?;
     Ok(())
 }
 

@@ -1,16 +1,25 @@
 //! The words of the command line.
-ghost use Rattle.std.specs.Prelude.{◌≡◌, ◌+◌, ◌<◌, None, IfOk, MatchResult, drop, length, map, string_bytes};
+ghost use Rattle.std.specs.Prelude.{◌≡◌, ◌+◌, ◌<◌, None, IfOk, MatchResult, drop, length, map, string_bytes, unwrap_or};
 ghost use Rattle.std.specs.Result.{result_ok};
 ghost use Rattle.std.specs.Option.{option_map};
-ghost use Rattle.smol_run.specs.Words.{Finds, is_file_name, IsSecond, item_of_two, items_of, job_of, NamesWord, seed_in, StandsAt, item_len};
+ghost use Rattle.smol_run.specs.Words.{AreWorkers, Finds, is_file_name, IsSecond, item_of_two, items_of, job_of, NamesWord, RunsByWorkers, seed_in, StandsAt, item_len, workers_in};
 
+use smol_line::count_in;
 use smol_num::read_digits;
+
+/// The most workers that a run may have.
+const MOST_WORKERS: u64 = 16;
 
 /// What the words ask for.
 #[derive(Clone, Copy, Debug, PartialEq, Eq)]
 pub enum Job {
-    /// A run of the file whose name is the word at this index, with a seed where the words give one.
-    File { index: usize, seed: Option<u64> },
+    /// A run of the file whose name is the word at this index, with a seed where the words give one,
+    /// by this many workers.
+    File {
+        index: usize,
+        seed: Option<u64>,
+        workers: u32,
+    },
 }
 
 /// The words ask for nothing that there is.
@@ -24,6 +33,8 @@ enum Item {
     Name(usize),
     /// The number behind `--seed`.
     Seed(u64),
+    /// The number behind `--workers`.
+    Workers(u32),
 }
 
 /// What the words have given so far.
@@ -31,6 +42,7 @@ enum Item {
 struct Found {
     name: Option<usize>,
     seed: Option<u64>,
+    workers: Option<u32>,
 }
 
 impl Found {
@@ -41,18 +53,20 @@ impl Found {
         let was_given = match item {
             Item::Name(index) => self.name.replace(index).is_some(),
             Item::Seed(seed) => self.seed.replace(seed).is_some(),
+            Item::Workers(workers) => self.workers.replace(workers).is_some(),
         };
         if was_given { Err(WordFault) } else { Ok(()) }
     }
 
-    /// What was given asks for.
+    /// What was given asks for. One worker runs it where no number of workers was given.
     fn job(self) -> Result<Job, WordFault>
-        ensures { result_ok result ≡ option_map (λ index. Job.File index self.seed) self.name }
+        ensures { result_ok result ≡ option_map (λ index. Job.File index self.seed (unwrap_or self.workers 1)) self.name }
     {
         let index = self.name.ok_or(WordFault)?;
         Ok(Job::File {
             index,
             seed: self.seed,
+            workers: self.workers.unwrap_or(1),
         })
     }
 }
@@ -61,10 +75,12 @@ impl Found {
 pub fn read_words(words: &[String]) -> Result<Job, WordFault>
     ensures job { result_ok result ≡ job_of (map (λ word. string_bytes word) words.now) }
     ensures named { IfOk result (NamesWord (length words.now)) }
+    ensures workers { IfOk result RunsByWorkers }
 {
     let mut found = Found {
         name: None,
         seed: None,
+        workers: None,
     };
     let mut index = 0;
     while index < words.len() {
@@ -98,7 +114,7 @@ fn item_len(item: Item) -> usize
 {
     match item {
         Item::Name(_) => 1,
-        Item::Seed(_) => 2,
+        Item::Seed(_) | Item::Workers(_) => 2,
     }
 }
 
@@ -114,6 +130,8 @@ fn item_of_two(word: &[u8], number: &[u8]) -> Result<Item, WordFault>
 {
     if word == b"--seed".as_slice() {
         Ok(Item::Seed(seed_in(number)?))
+    } else if word == b"--workers".as_slice() {
+        Ok(Item::Workers(workers_in(number)?))
     } else {
         Err(WordFault)
     }
@@ -123,4 +141,14 @@ fn seed_in(word: &[u8]) -> Result<u64, WordFault>
     ensures { result_ok result ≡ seed_in word.now }
 {
     read_digits(word, u64::MAX).map_err(|_| WordFault)
+}
+
+fn workers_in(word: &[u8]) -> Result<u32, WordFault>
+    ensures value { result_ok result ≡ workers_in word.now }
+    ensures within { IfOk result AreWorkers }
+{
+    match count_in(1, MOST_WORKERS, word) {
+        Ok(workers) => Ok(workers as u32),
+        Err(_) => Err(WordFault),
+    }
 }

@@ -1,5 +1,5 @@
 use Rattle.std.proofs.Common.{◌≡◌, ◌<◌, ◌≤◌, ◌-◌, length, map, drop, string_bytes, IfSome}
-use Rattle.smol_run.specs.Words.{items_of, job_of}
+use Rattle.smol_run.specs.Words.{AreWorkers, items_of, job_of}
 use Rattle.smol_run.proofs.Items.{job_of_more}
 use Rattle.smol_run.proofs.words.read_words.Given as goal
 
@@ -7,6 +7,7 @@ abbrev pub invariant-loop-index : goal.invariant-loop-index
 invariant-loop-index l = record {
   within : l.index ≤ length l.words;
   named : IfSome l.found.name (λ index. index < length l.words);
+  workers : IfSome l.found.workers AreWorkers;
   same : job_of (map string_bytes l.words) ≡ job_of_more l.found (items_of l.index (drop l.index (map string_bytes l.words)));
 }
 
