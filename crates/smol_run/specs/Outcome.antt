@@ -32,7 +32,7 @@ abbrev pub misused : Outcome
 misused = record {
   status = status.Usage;
   names = [];
-  pieces = error_line (codes "usage: smol FILE [--seed N] [--workers N]");
+  pieces = error_line (codes "usage: smol FILE [--seed N] [--workers N] or smol --make N");
 }
 
 -- the text is refused at a line, or as a whole at line 0

@@ -22,7 +22,7 @@ use std::thread::Threads;
 /// How long a configuration may be, in bytes.
 const MOST_BYTES: usize = 4_194_304;
 
-const USAGE: &[u8] = b"usage: smol FILE [--seed N] [--workers N]\n";
+const USAGE: &[u8] = b"usage: smol FILE [--seed N] [--workers N] or smol --make N\n";
 
 /// Runs what the words of the command line ask for over a source and outlets, and answers the exit status.
 /// Files are read from the source. Lines for people who read along go to outlet 1, the rest where the

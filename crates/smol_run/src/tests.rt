@@ -21,7 +21,7 @@ const LINES: [&str; 11] = [
     "cmd a molcount stdout",
 ];
 
-const USAGE: &str = "usage: smol FILE [--seed N] [--workers N]\n";
+const USAGE: &str = "usage: smol FILE [--seed N] [--workers N] or smol --make N\n";
 
 /// A call over a source with the one file `f`, and how it is to end.
 #[derive(Clone, Copy)]
