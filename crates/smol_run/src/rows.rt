@@ -1,6 +1,7 @@
 //! Short files behind the same eight lines, with what they print.
 use crate::{Status, run_program};
-use smol_edge::{MemOutlets, MemSource, Open};
+use itoa::Buffer;
+use smol_edge::{Gate, Meet, MemOutlets, MemSource, Open};
 use std::alloc::{AllocError, Global};
 use std::process::Abort;
 use std::test::Fail;
@@ -40,23 +41,36 @@ fn joined(alloc: Global, parts: &[&str]) -> Result<String, AllocError> {
     Ok(text)
 }
 
+// Runs a text by these words, where workers pass this gate, and sees that it ends so.
+fn ends_by<R: Abort + AllocGlobal + Sync + Threads, G: Gate + Sync>(
+    rt: &R,
+    words: &[&str],
+    gate: &G,
+    parts: &[&str],
+    end: End<'_>,
+) -> Result<(), AllocError> {
+    let text = joined(rt.alloc(), parts)?;
+    let mut owned = Vec::new(rt.alloc());
+    for word in words {
+        owned.push(String::from_str(rt.alloc(), word)?)?;
+    }
+    let mut source = MemSource::of(rt.alloc(), "f", text.as_bytes(), &[])?;
+    let mut outlets = MemOutlets::of(rt.alloc(), &[], 4096)?;
+    let status = run_program(rt, rt.alloc(), &owned, &mut source, &mut outlets, gate);
+    assert_eq!(rt; outlets.bytes(1), end.stderr.as_bytes());
+    assert_eq!(rt; outlets.bytes(0), end.stdout.as_bytes());
+    assert_eq!(rt; status, end.status);
+    assert_eq!(rt; outlets.names().len(), 0);
+    Ok(())
+}
+
 // Runs a text, and sees that it ends so.
 fn ends<R: Abort + AllocGlobal + Sync + Threads>(
     rt: &R,
     parts: &[&str],
     end: End<'_>,
 ) -> Result<(), AllocError> {
-    let text = joined(rt.alloc(), parts)?;
-    let mut words = Vec::new(rt.alloc());
-    words.push(String::from_str(rt.alloc(), "f")?)?;
-    let mut source = MemSource::of(rt.alloc(), "f", text.as_bytes(), &[])?;
-    let mut outlets = MemOutlets::of(rt.alloc(), &[], 4096)?;
-    let status = run_program(rt, rt.alloc(), &words, &mut source, &mut outlets, &Open);
-    assert_eq!(rt; outlets.bytes(1), end.stderr.as_bytes());
-    assert_eq!(rt; outlets.bytes(0), end.stdout.as_bytes());
-    assert_eq!(rt; status, end.status);
-    assert_eq!(rt; outlets.names().len(), 0);
-    Ok(())
+    ends_by(rt, &["f"], &Open, parts, end)
 }
 
 /// A reaction of A to B at 30 units to the right.
@@ -144,6 +158,48 @@ fn molecules_react_in_pairs(rt: HostRuntime) -> Result<(), Fail> {
             COUNT,
         ],
         done("0 1 1 0\n1 0 0 1\n"),
+    )?;
+    Ok(())
+}
+
+// 70 pairs of molecules, each pair at a place of its own.
+fn seventy_pairs(alloc: Global) -> Result<String, AllocError> {
+    let mut text = String::new(alloc);
+    let mut number = Buffer::new();
+    for x in 1..71u32 {
+        text.push_str("mol 2 A ")?;
+        text.push_str(number.format(x))?;
+        text.push_str(" 50 50\n")?;
+    }
+    text.push_str("reaction r1 A + A -> 0\nbinding_radius r1 0.1\n")?;
+    Ok(text)
+}
+
+// Two workers decide pairs at the same time, and what is printed is what one worker prints.
+#[test]
+fn workers_change_nothing(rt: HostRuntime) -> Result<(), Fail> {
+    let pairs = seventy_pairs(rt.alloc())?;
+    let parts = [BASE, pairs.as_str(), COUNT];
+    let meet = Meet::of();
+    ends(&rt, &parts, done("0 140\n1 0\n"))?;
+    ends_by(
+        &rt,
+        &["f", "--workers", "2"],
+        &meet,
+        &parts,
+        done("0 140\n1 0\n"),
+    )?;
+    assert_eq!(rt; meet.met(), true);
+    ends_by(
+        &rt,
+        &["--workers", "16", "f"],
+        &Open,
+        &[
+            BASE,
+            "mol 4 A 50 50 50\nreaction r1 A + A -> 0\nbinding_radius r1 1\n",
+            COUNT,
+        ],
+        done("0 4\n1 0\n"),
     )?;
     Ok(())
 }
