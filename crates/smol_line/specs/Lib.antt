@@ -6,3 +6,5 @@ pub mod Names
 pub mod SpeciesWord
 pub mod Axis
 pub mod Length
+pub mod Axes
+pub mod Coordinate

@@ -1,8 +1,10 @@
-//! What a reader needs of a line: its words, and what a word means as a number, a name, a species, an axis or a length.
+//! What a reader needs of a line: its words, and what a word means as a number, a name, a species, an axis, a length or a coordinate.
 #![tactic(auto)]
 
+mod axes;
 mod axis;
 mod checks;
+mod coordinate;
 mod length;
 mod name_set;
 mod names;
@@ -11,8 +13,10 @@ mod refusal;
 mod species_word;
 mod words;
 
+pub use axes::{Axes, Bounds, is_walled, needs_dim, needs_walls};
 pub use axis::axis_in;
 pub use checks::{once, unless, word_count};
+pub use coordinate::{coordinate_between, ticks_within};
 pub use length::micros_in;
 pub use name_set::NameSet;
 pub use names::{name_in, new_name_in};
