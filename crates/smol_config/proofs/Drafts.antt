@@ -1,5 +1,5 @@
 -- The draft that the tables make is what the lines say, and its tests are those of the whole file.
-use Rattle.std.proofs.Common.{◌≡◌, ◌+◌, ◌≤◌, ◌∷◌, length, suc, ℕ, Bool, true, false, ℤ, pos, nat_le, IfSome, unsigned_abs, to_z, of_z, w64, arith, List, [], Option, None, Some, Err, slice_index_or, unwrap_or, refl, ap, ◌∙◌}
+use Rattle.std.proofs.Common.{◌≡◌, ◌+◌, ◌≤◌, ◌∷◌, length, suc, ℕ, Bool, true, false, ℤ, pos, nat_le, IfSome, unsigned_abs, to_z, of_z, w64, arith, List, [], Option, None, Some, Err, unwrap_or, refl, ap, ◌∙◌}
 use Rattle.std.specs.List.{list_all}
 use Rattle.std.proofs.lemmas.Int.{ints}
 use Rattle.smol_types.specs.declared.draft.Draft.{Draft}
@@ -8,6 +8,7 @@ use Rattle.smol_types.specs.declared.fault.Kind.TheVariants.{OutOfRange, Probabi
 use Rattle.smol_types.specs.declared.species.Species.{Species}
 use Rattle.smol_types.specs.declared.wall.Wall.{Wall}
 use Rattle.smol_types.specs.Steps.{last_step}
+use Rattle.smol_line.specs.Axes.{walls_of}
 use Rattle.smol_line.specs.Checks.{unless}
 use Rattle.smol_reactions.specs.Content.{are_shared, chances_of}
 use Rattle.smol_config.specs.declared.motion.Motion.{Motion}
@@ -17,7 +18,7 @@ use Rattle.smol_config.specs.Said.{Said}
 use Rattle.smol_config.specs.MaxMol.{limit_of}
 use Rattle.smol_config.specs.Reactions.{reactions_said}
 use Rattle.smol_config.specs.Species.{species_of}
-use Rattle.smol_config.specs.Content.{content_of, species_from, started, walls_of}
+use Rattle.smol_config.specs.Content.{content_of, species_from, started}
 use Rattle.smol_config.specs.Tables.{Holds, species_made}
 use Rattle.smol_config.specs.Whole.{bounded, has_chances, has_difstep, has_few_steps}
 use Rattle.smol_config.proofs.SpeciesNames.{species_are}
@@ -43,20 +44,16 @@ drafted needed tables species walls = record {
   seed = tables.seed;
 }
 
--- the walls that the tables make
-abbrev pub walled : Tables → List Wall
-walled tables = walls_of (slice_index_or tables.bounds 0 None) (slice_index_or tables.bounds 1 None) (slice_index_or tables.bounds 2 None)
-
 module _ (needed : Needed) (tables : Tables) (before : List Said) (h : Holds tables before) where
   pub species_held : species_made needed.step tables.species.motions.items 0 tables.species.names ≡ species_from needed.step before 0 (species_of before)
   species_held = species_are needed.step before tables.species.motions.items h.motions 0 tables.species.names ∙ ap (species_from needed.step before 0) h.species
 
   -- what the tables make is what the lines say
-  pub drafted_is : drafted needed tables (species_made needed.step tables.species.motions.items 0 tables.species.names) (walled tables) ≡ content_of needed before
+  pub drafted_is : drafted needed tables (species_made needed.step tables.species.motions.items 0 tables.species.names) (walls_of tables.axes) ≡ content_of needed before
   unfolding content_of
   drafted_is =
       let species = species_held in
-      let walls : walled tables ≡ walls_of _ _ _ = rw (h.bounds.x, h.bounds.y, h.bounds.z) refl in
+      let walls = ap walls_of h.axes in
       λ i. record {
         dims = needed.dims;
         species = species i;

@@ -1,10 +1,11 @@
 -- The tables with what one line more says.
-use Rattle.std.proofs.Common.{◌≡◌, ◌<◌, ◌++◌, ◌∷◌, [], ◌&&◌, ℕ, zero, suc, ℤ, List, length, Option, None, Some, Result, Ok, Err, OnOk, nat_le, nat_lt, slice_index_or, slice_set, arith, refl, ap, ◌∙◌, if◌then◌else◌}
-use Rattle.std.proofs.lemmas.List.{length-set}
+use Rattle.std.proofs.Common.{◌≡◌, ◌<◌, ◌++◌, ◌∷◌, [], ◌&&◌, ℕ, zero, suc, ℤ, List, length, Option, None, Some, Result, Ok, Err, OnOk, nat_le, nat_lt, slice_index_or, arith, refl, ap, ◌∙◌, if◌then◌else◌}
 use Rattle.smol_text.specs.Reading.{Stated}
 use Rattle.smol_types.specs.declared.command.Command.{Command}
 use Rattle.smol_types.specs.declared.fault.Kind.{Kind}
 use Rattle.smol_types.specs.declared.placing.Placing.{Placing}
+use Rattle.smol_line.specs.declared.axes.Axes.{Axes}
+use Rattle.smol_line.specs.declared.axes.Bounds.{Bounds}
 use Rattle.smol_line.specs.declared.refusal.Refusal.{Refusal}
 use Rattle.smol_line.specs.declared.refusal.Refusal.TheVariants.{At, OutOfMemory}
 use Rattle.smol_line.specs.declared.species_word.Chosen.{Chosen}
@@ -17,36 +18,24 @@ use Rattle.smol_config.specs.declared.species_table.SpeciesTable.{SpeciesTable}
 use Rattle.smol_config.specs.declared.statement.Statement.{Statement}
 use Rattle.smol_config.specs.declared.statement.Statement.TheVariants as statement
 use Rattle.smol_config.specs.declared.tables.Tables.{Tables}
-use Rattle.smol_config.specs.declared.walls.Bounds.{Bounds}
 use Rattle.smol_config.specs.Said.{Said, passed_over, axes, names, moves, starts, stops, steps, limits, seeds, walls, places, of_reactions, performs, say}
 use Rattle.smol_config.specs.Species.{further_words, species_in, species_of}
 use Rattle.smol_config.specs.Motion.{still}
 use Rattle.smol_config.specs.Reader.{statement_in}
-use Rattle.smol_config.specs.Walls.{bounds_of}
+use Rattle.smol_config.specs.Axes.{axes_of}
 use Rattle.smol_config.specs.Reactions.{reactions_said}
-use Rattle.smol_config.specs.Tables.{AreBounds, Holds, Reads}
-
--- the walls of an axis by its number
-pub bounds_at : (bounds : List (Option Bounds)) (before : List Said) (axis : ℕ) → AreBounds bounds before → axis < 3 → slice_index_or bounds axis None ≡ bounds_of axis before
-bounds_at bounds before zero h within = h.x
-bounds_at bounds before (suc zero) h within = h.y
-bounds_at bounds before (suc (suc zero)) h within = h.z
-bounds_at bounds before (suc (suc (suc axis))) h within = absurd (omega arith)
+use Rattle.smol_config.specs.Tables.{Holds, Reads, with_bounds}
 
 -- the walls of one axis more
-bounds_set : (bounds : List (Option Bounds)) (before : List Said) (axis : ℕ) (new : Bounds) → length bounds ≡ 3 → axis < 3 → AreBounds bounds before → AreBounds (slice_set bounds axis (Some new)) (walls axis new ∷ before)
-bounds_set [] before axis new count within h = absurd (omega arith)
-bounds_set (x ∷ []) before axis new count within h = absurd (omega arith)
-bounds_set (x ∷ y ∷ []) before axis new count within h = absurd (omega arith)
-bounds_set (x ∷ y ∷ z ∷ []) before zero new count within h = record { x = refl; y = h.y; z = h.z }
-bounds_set (x ∷ y ∷ z ∷ []) before (suc zero) new count within h = record { x = h.x; y = refl; z = h.z }
-bounds_set (x ∷ y ∷ z ∷ []) before (suc (suc zero)) new count within h = record { x = h.x; y = h.y; z = refl }
-bounds_set (x ∷ y ∷ z ∷ []) before (suc (suc (suc axis))) new count within h = absurd (omega arith)
-bounds_set (x ∷ y ∷ z ∷ more ∷ bounds) before axis new count within h = absurd (omega arith)
+axes_with : (before : List Said) (axis : ℕ) (new : Bounds) → axis < 3 → with_bounds axis new (axes_of before) ≡ axes_of (walls axis new ∷ before)
+axes_with before zero new within = refl
+axes_with before (suc zero) new within = refl
+axes_with before (suc (suc zero)) new within = refl
+axes_with before (suc (suc (suc axis))) new within = absurd (omega arith)
 
 pub passed_over_held : (tables : Tables) (before : List Said) → Holds tables before → Holds tables (passed_over ∷ before)
 passed_over_held tables before h = record {
-  dims = h.dims;
+  axes = h.axes;
   species = h.species;
   motions = h.motions;
   start = h.start;
@@ -54,17 +43,15 @@ passed_over_held tables before h = record {
   step = h.step;
   max_mol = h.max_mol;
   seed = h.seed;
-  axes = h.axes;
-  bounds = record { x = h.bounds.x; y = h.bounds.y; z = h.bounds.z };
   placings = h.placings;
   reactions = h.reactions;
   kept = h.kept;
   commands = h.commands;
 }
 
-pub axes_held : (tables : Tables) (before : List Said) (dims : ℕ) → Holds tables before → Holds (record tables { dims = Some dims }) (axes dims ∷ before)
+pub axes_held : (tables : Tables) (before : List Said) (dims : ℕ) → Holds tables before → Holds (record tables { axes = record tables.axes { dims = Some dims } }) (axes dims ∷ before)
 axes_held tables before dims h = record {
-  dims = refl;
+  axes = ap (λ (old : Axes). let new : Axes = record old { dims = Some dims } in new) h.axes;
   species = h.species;
   motions = h.motions;
   start = h.start;
@@ -72,8 +59,6 @@ axes_held tables before dims h = record {
   step = h.step;
   max_mol = h.max_mol;
   seed = h.seed;
-  axes = h.axes;
-  bounds = record { x = h.bounds.x; y = h.bounds.y; z = h.bounds.z };
   placings = h.placings;
   reactions = h.reactions;
   kept = h.kept;
@@ -82,7 +67,7 @@ axes_held tables before dims h = record {
 
 pub start_held : (tables : Tables) (before : List Said) (time : ℤ) → Holds tables before → Holds (record tables { start = Some time }) (starts time ∷ before)
 start_held tables before time h = record {
-  dims = h.dims;
+  axes = h.axes;
   species = h.species;
   motions = h.motions;
   start = refl;
@@ -90,8 +75,6 @@ start_held tables before time h = record {
   step = h.step;
   max_mol = h.max_mol;
   seed = h.seed;
-  axes = h.axes;
-  bounds = record { x = h.bounds.x; y = h.bounds.y; z = h.bounds.z };
   placings = h.placings;
   reactions = h.reactions;
   kept = h.kept;
@@ -100,7 +83,7 @@ start_held tables before time h = record {
 
 pub stop_held : (tables : Tables) (before : List Said) (time : ℤ) → Holds tables before → Holds (record tables { stop = Some time }) (stops time ∷ before)
 stop_held tables before time h = record {
-  dims = h.dims;
+  axes = h.axes;
   species = h.species;
   motions = h.motions;
   start = h.start;
@@ -108,8 +91,6 @@ stop_held tables before time h = record {
   step = h.step;
   max_mol = h.max_mol;
   seed = h.seed;
-  axes = h.axes;
-  bounds = record { x = h.bounds.x; y = h.bounds.y; z = h.bounds.z };
   placings = h.placings;
   reactions = h.reactions;
   kept = h.kept;
@@ -118,7 +99,7 @@ stop_held tables before time h = record {
 
 pub step_held : (tables : Tables) (before : List Said) (time : ℤ) → Holds tables before → Holds (record tables { step = Some time }) (steps time ∷ before)
 step_held tables before time h = record {
-  dims = h.dims;
+  axes = h.axes;
   species = h.species;
   motions = h.motions;
   start = h.start;
@@ -126,8 +107,6 @@ step_held tables before time h = record {
   step = refl;
   max_mol = h.max_mol;
   seed = h.seed;
-  axes = h.axes;
-  bounds = record { x = h.bounds.x; y = h.bounds.y; z = h.bounds.z };
   placings = h.placings;
   reactions = h.reactions;
   kept = h.kept;
@@ -136,7 +115,7 @@ step_held tables before time h = record {
 
 pub limit_held : (tables : Tables) (before : List Said) (count : ℕ) → Holds tables before → Holds (record tables { max_mol = Some count }) (limits count ∷ before)
 limit_held tables before count h = record {
-  dims = h.dims;
+  axes = h.axes;
   species = h.species;
   motions = h.motions;
   start = h.start;
@@ -144,8 +123,6 @@ limit_held tables before count h = record {
   step = h.step;
   max_mol = refl;
   seed = h.seed;
-  axes = h.axes;
-  bounds = record { x = h.bounds.x; y = h.bounds.y; z = h.bounds.z };
   placings = h.placings;
   reactions = h.reactions;
   kept = h.kept;
@@ -154,7 +131,7 @@ limit_held tables before count h = record {
 
 pub seed_held : (tables : Tables) (before : List Said) (seed : ℕ) → Holds tables before → Holds (record tables { seed = Some seed }) (seeds seed ∷ before)
 seed_held tables before seed h = record {
-  dims = h.dims;
+  axes = h.axes;
   species = h.species;
   motions = h.motions;
   start = h.start;
@@ -162,17 +139,15 @@ seed_held tables before seed h = record {
   step = h.step;
   max_mol = h.max_mol;
   seed = refl;
-  axes = h.axes;
-  bounds = record { x = h.bounds.x; y = h.bounds.y; z = h.bounds.z };
   placings = h.placings;
   reactions = h.reactions;
   kept = h.kept;
   commands = h.commands;
 }
 
-pub walls_held : (tables : Tables) (before : List Said) (axis : ℕ) (new : Bounds) → axis < 3 → Holds tables before → Holds (record tables { bounds = slice_set tables.bounds axis (Some new) }) (walls axis new ∷ before)
-walls_held tables before axis new within h = record {
-  dims = h.dims;
+pub walls_held : (tables : Tables) (before : List Said) (axis : ℕ) (new : Bounds) (all : Axes) → axis < 3 → all ≡ with_bounds axis new tables.axes → Holds tables before → Holds (record tables { axes = all }) (walls axis new ∷ before)
+walls_held tables before axis new all within added h = record {
+  axes = added ∙ ap (with_bounds axis new) h.axes ∙ axes_with before axis new within;
   species = h.species;
   motions = h.motions;
   start = h.start;
@@ -180,8 +155,6 @@ walls_held tables before axis new within h = record {
   step = h.step;
   max_mol = h.max_mol;
   seed = h.seed;
-  axes = length-set tables.bounds axis (Some new) ∙ h.axes;
-  bounds = bounds_set tables.bounds before axis new h.axes within h.bounds;
   placings = h.placings;
   reactions = h.reactions;
   kept = h.kept;
@@ -190,7 +163,7 @@ walls_held tables before axis new within h = record {
 
 pub placings_held : (tables : Tables) (before : List Said) (placing : Placing) (all : List Placing) → all ≡ tables.placings ++ placing ∷ [] → Holds tables before → Holds (record tables { placings = all }) (places placing ∷ before)
 placings_held tables before placing all added h = record {
-  dims = h.dims;
+  axes = h.axes;
   species = h.species;
   motions = h.motions;
   start = h.start;
@@ -198,8 +171,6 @@ placings_held tables before placing all added h = record {
   step = h.step;
   max_mol = h.max_mol;
   seed = h.seed;
-  axes = h.axes;
-  bounds = record { x = h.bounds.x; y = h.bounds.y; z = h.bounds.z };
   placings = added ∙ ap (λ old. old ++ placing ∷ []) h.placings;
   reactions = h.reactions;
   kept = h.kept;
@@ -208,7 +179,7 @@ placings_held tables before placing all added h = record {
 
 pub commands_held : (tables : Tables) (before : List Said) (command : Command) (all : List Command) → all ≡ tables.commands ++ command ∷ [] → Holds tables before → Holds (record tables { commands = all }) (performs command ∷ before)
 commands_held tables before command all added h = record {
-  dims = h.dims;
+  axes = h.axes;
   species = h.species;
   motions = h.motions;
   start = h.start;
@@ -216,8 +187,6 @@ commands_held tables before command all added h = record {
   step = h.step;
   max_mol = h.max_mol;
   seed = h.seed;
-  axes = h.axes;
-  bounds = record { x = h.bounds.x; y = h.bounds.y; z = h.bounds.z };
   placings = h.placings;
   reactions = h.reactions;
   kept = h.kept;
@@ -226,7 +195,7 @@ commands_held tables before command all added h = record {
 
 pub motions_held : (tables : Tables) (before : List Said) (chosen : Chosen) (motion : Motion) (species : SpeciesTable) → species.names ≡ tables.species.names → ((number : ℕ) → slice_index_or species.motions.items number still ≡ (if nat_le chosen.first number && nat_lt number chosen.end then motion else slice_index_or tables.species.motions.items number still)) → Holds tables before → Holds (record tables { species = species }) (moves chosen motion ∷ before)
 motions_held tables before chosen motion species same moved h = record {
-  dims = h.dims;
+  axes = h.axes;
   species = same ∙ h.species;
   motions = λ number. moved number ∙ ap (λ old. if is_chosen number chosen then motion else old) (h.motions number);
   start = h.start;
@@ -234,8 +203,6 @@ motions_held tables before chosen motion species same moved h = record {
   step = h.step;
   max_mol = h.max_mol;
   seed = h.seed;
-  axes = h.axes;
-  bounds = record { x = h.bounds.x; y = h.bounds.y; z = h.bounds.z };
   placings = h.placings;
   reactions = h.reactions;
   kept = h.kept;
@@ -253,7 +220,7 @@ reactions_read one line tables reactions (Ok done) rule is reads kept = λ befor
       of_reactions read.0,
       is before ∙ ap (say of_reactions) read.1,
       record {
-        dims = h.dims;
+        axes = h.axes;
         species = h.species;
         motions = h.motions;
         start = h.start;
@@ -261,8 +228,6 @@ reactions_read one line tables reactions (Ok done) rule is reads kept = λ befor
         step = h.step;
         max_mol = h.max_mol;
         seed = h.seed;
-        axes = h.axes;
-        bounds = record { x = h.bounds.x; y = h.bounds.y; z = h.bounds.z };
         placings = h.placings;
         reactions = read.2;
         kept = kept;
@@ -284,7 +249,7 @@ species_reads line tables species (Ok done) added same accepted refused = λ bef
   names (further_words line),
   ap (say names) (accepted before h.species),
   record {
-    dims = h.dims;
+    axes = h.axes;
     species = added ∙ ap (λ old. old ++ further_words line) h.species;
     motions = λ number. same number ∙ h.motions number;
     start = h.start;
@@ -292,8 +257,6 @@ species_reads line tables species (Ok done) added same accepted refused = λ bef
     step = h.step;
     max_mol = h.max_mol;
     seed = h.seed;
-    axes = h.axes;
-    bounds = record { x = h.bounds.x; y = h.bounds.y; z = h.bounds.z };
     placings = h.placings;
     reactions = h.reactions;
     kept = h.kept;

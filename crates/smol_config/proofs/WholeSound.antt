@@ -17,6 +17,8 @@ use Rattle.smol_types.specs.Reactions.{IsReaction}
 use Rattle.smol_types.specs.Sound.{IsSound}
 use Rattle.smol_types.specs.Steps.{last_step}
 use Rattle.smol_types.specs.Walls.{IsAxis, AreWalls}
+use Rattle.smol_line.specs.declared.axes.Bounds.{Bounds}
+use Rattle.smol_line.specs.Axes.{IsBounded, is_walled, walls_of}
 use Rattle.smol_line.specs.Checks.{unless, passing, there, with_value}
 use Rattle.smol_line.specs.Fault.{Fault, fault_at, at_line}
 use Rattle.smol_line.proofs.Passing.{passed, valued, holds, is_there}
@@ -24,21 +26,19 @@ use Rattle.smol_reactions.specs.Content.{chances_of, reaction_made, reactions_of
 use Rattle.smol_reactions.proofs.Chances.{shared_at, shares_fit}
 use Rattle.smol_reactions.proofs.Lists.{length-numbered}
 use Rattle.smol_reactions.proofs.SoundSaid.{nothing_sound}
-use Rattle.smol_config.specs.declared.walls.Bounds.{Bounds}
 use Rattle.smol_config.specs.declared.whole.Needed.{Needed}
 use Rattle.smol_config.specs.Said.{Said}
-use Rattle.smol_config.specs.Dim.{dims_of}
+use Rattle.smol_config.specs.Axes.{axes_of, bounds_of, dims_of}
 use Rattle.smol_config.specs.Species.{species_of}
 use Rattle.smol_config.specs.Times.{start_of, stop_of, step_of}
 use Rattle.smol_config.specs.MaxMol.{max_mol_of, limit_of}
-use Rattle.smol_config.specs.Walls.{bounds_of, is_walled}
 use Rattle.smol_config.specs.Mol.{placings_of}
 use Rattle.smol_config.specs.Reactions.{reactions_said}
 use Rattle.smol_config.specs.Cmd.{commands_of}
-use Rattle.smol_config.specs.Content.{content_of, species_from, started, walls_of}
+use Rattle.smol_config.specs.Content.{content_of, species_from, started}
 use Rattle.smol_config.specs.Whole.{bounded, has_chances, has_difstep, has_few_steps, has_room, needed_in, whole_in}
 use Rattle.smol_config.specs.Reader.{config_from, config_of, line_in, lines_in, read_from}
-use Rattle.smol_config.specs.SoFar.{IsBounded, IsSoFar}
+use Rattle.smol_config.specs.SoFar.{IsSoFar}
 use Rattle.smol_config.specs.Tables.{AreSmall}
 use Rattle.smol_config.proofs.Rules.{line_keeps}
 
@@ -122,7 +122,7 @@ unwalled dims axis used walled = let open_end : (nat_le dims axis || false) ≡ 
 
 -- the walls of all axes in use
 are_walls : (dims : ℕ) (x y z : Option Bounds) → 1 ≤ dims → dims ≤ 3 → is_walled dims 0 x ≡ true → is_walled dims 1 y ≡ true → is_walled dims 2 z ≡ true → IfSome x (IsBounded (Some dims) 0) → IfSome y (IsBounded (Some dims) 1) → IfSome z (IsBounded (Some dims) 2)
-    → AreWalls 0 (walls_of x y z) × (length (walls_of x y z) ≡ 2 * dims)
+    → AreWalls 0 (walls_of (record { dims = Some dims; x = x; y = y; z = z })) × (length (walls_of (record { dims = Some dims; x = x; y = y; z = z })) ≡ 2 * dims)
 unfolding walls_of
 are_walls dims None y z least most has_x has_y has_z sound_x sound_y sound_z = absurd (unwalled dims 0 (omega arith) has_x)
 are_walls dims (Some x) None None least most has_x has_y has_z sound_x sound_y sound_z =
@@ -162,19 +162,19 @@ near_all species near =
 
 -- what lines without a fault say together is sound
 content_is_sound : (before : List Said) (needed : Needed) → IsSoFar before → needed_in before ≡ Ok needed → has_few_steps (content_of needed before) ≡ true → list_all has_difstep (content_of needed before).species ≡ true → has_room (content_of needed before) ≡ true → has_chances (chances_of (reactions_said before)) (content_of needed before) ≡ true → IsSound (content_of needed before)
-unfolding content_of
+unfolding content_of walls_of
 content_is_sound before needed h is few near room shared =
     let given = needed_is before needed is in
-    let axes = rw given.0 at h.dims in
+    let axes = rw given.0 at h.axes.dims in
     let stop = rw given.4 at h.stop in
     let step = rw given.5 at h.step in
     let start = time_within (start_of before) h.start in
     let most = limit_within (max_mol_of before) h.max_mol in
     let Q : ℕ → Option Bounds → Option ℕ → Type 0 = λ axis bounds dims. IfSome bounds (IsBounded dims axis) in
     let walls = are_walls needed.dims (bounds_of 0 before) (bounds_of 1 before) (bounds_of 2 before) axes.0 axes.1 given.1 given.2 given.3
-    (subst (Q 0 (bounds_of 0 before)) given.0 h.x) (subst (Q 1 (bounds_of 1 before)) given.0 h.y) (subst (Q 2 (bounds_of 2 before)) given.0 h.z) in
+    (subst (Q 0 (bounds_of 0 before)) given.0 h.axes.x) (subst (Q 1 (bounds_of 1 before)) given.0 h.axes.y) (subst (Q 2 (bounds_of 2 before)) given.0 h.axes.z) in
     let count = length-species_from needed.step before 0 (species_of before) in
-    let around = walls_of (bounds_of 0 before) (bounds_of 1 before) (bounds_of 2 before) in
+    let around = walls_of (axes_of before) in
     let Placed : ℕ → Type 0 = λ species. All (IsPlacing species 0 around) (placings_of before) in
     let Commanded : ℕ → Type 0 = λ species. All (IsCommand species 0 0 around) (commands_of before) in
     let Reacting : ℕ → Type 0 = λ species. All (IsReaction needed.dims species) (reactions_of (reactions_said before)) in
@@ -219,15 +219,12 @@ whole_is_sound before draft h is =
 -- so far nothing is said
 pub nothing_yet : IsSoFar []
 nothing_yet = record {
-  dims = tt;
+  axes = record { dims = tt; x = tt; y = tt; z = tt };
   species = omega arith;
   start = tt;
   stop = tt;
   step = tt;
   max_mol = tt;
-  x = tt;
-  y = tt;
-  z = tt;
   settled = λ some. absurd (omega arith);
   placings = λ k d within. absurd (omega arith);
   reactions = nothing_sound None 0;

@@ -7,10 +7,11 @@ use Rattle.smol_types.specs.declared.fault.Kind.{Kind}
 use Rattle.smol_types.specs.declared.fault.Kind.TheVariants.{WrongWordCount, TooMany}
 use Rattle.smol_types.specs.declared.command.Command.{Command}
 use Rattle.smol_types.specs.Limits.{most_commands}
+use Rattle.smol_line.specs.declared.axes.Axes.{Axes}
+use Rattle.smol_line.specs.Axes.{needs_walls}
 use Rattle.smol_line.specs.Words.{word_at}
 use Rattle.smol_line.specs.Checks.{unless, passing, with_value}
 use Rattle.smol_config.specs.Said.{Said, performs, gathered}
-use Rattle.smol_config.specs.Walls.{needs_walls}
 use Rattle.smol_config.specs.Cmd.When.{when_in}
 use Rattle.smol_config.specs.Cmd.Act.{act_in}
 
@@ -22,12 +23,13 @@ said_command other = None
 abbrev pub commands_of : List Said → List Command
 commands_of before = gathered said_command before
 
-unfoldable pub cmd_in : List Said → Stated → Result Command Kind
-cmd_in before line =
-    with_value (needs_walls before) (λ dims.
+-- the command of a line, where so many stand before it
+unfoldable pub cmd_in : Axes → ℕ → Stated → Result Command Kind
+cmd_in axes count line =
+    with_value (needs_walls axes) (λ dims.
     passing (unless (nat_le 2 (length (words_of line))) WrongWordCount ∷ [])
     (with_value (when_in (word_at line 1)) (λ due.
     passing (unless (nat_le 3 (length (words_of line))) WrongWordCount ∷ [])
     (with_value (act_in line 2) (λ act.
-    passing (unless (nat_lt (length (commands_of before)) most_commands) TooMany ∷ [])
+    passing (unless (nat_lt count most_commands) TooMany ∷ [])
     (Ok (record { «when» = due; tests = []; act = act })))))))

@@ -1,12 +1,12 @@
 pub mod Statement
 pub mod Said
+pub mod Axes
 pub mod Dim
 pub mod Species
 pub mod Motion
 pub mod Times
 pub mod MaxMol
 pub mod RandomSeed
-pub mod Walls
 pub mod Boundaries
 pub mod Mol
 pub mod Cmd

@@ -12,7 +12,8 @@ use Rattle.smol_config.specs.declared.statement.Statement.{Statement}
 use Rattle.smol_config.specs.declared.statement.Statement.TheVariants.{PassedOver, NotInProfile, Unknown, Dim, Species, Difc, Difstep, TimeStart, TimeStop, TimeStep, MaxMol, RandomSeed, Boundaries, Mol, Reaction, BindingRadius, ReactionProbability, ProductPlacement, Cmd}
 use Rattle.smol_config.specs.Statement.{statement_of}
 use Rattle.smol_config.specs.Said.{Said, passed_over, axes, names, moves, starts, stops, steps, limits, seeds, walls, places, of_reactions, performs, say}
-use Rattle.smol_config.specs.Dim.{dim_in, dims_of}
+use Rattle.smol_config.specs.Axes.{axes_of, dims_of}
+use Rattle.smol_config.specs.Dim.{dim_in}
 use Rattle.smol_config.specs.Species.{species_in, species_of}
 use Rattle.smol_config.specs.Motion.{difc_in, difstep_in}
 use Rattle.smol_config.specs.Times.{start_of, stop_of, time_in, time_step_in}
@@ -21,7 +22,7 @@ use Rattle.smol_config.specs.RandomSeed.{random_seed_in}
 use Rattle.smol_config.specs.Boundaries.{boundaries_in}
 use Rattle.smol_config.specs.Mol.{mol_in}
 use Rattle.smol_config.specs.Reactions.{reactions_said}
-use Rattle.smol_config.specs.Cmd.{cmd_in}
+use Rattle.smol_config.specs.Cmd.{cmd_in, commands_of}
 use Rattle.smol_config.specs.Whole.{whole_in}
 
 -- what a line says that makes this statement, or its fault
@@ -29,7 +30,7 @@ unfoldable pub statement_in : Statement → List Said → Stated → Result Said
 statement_in PassedOver before line = Ok passed_over
 statement_in NotInProfile before line = Err kind.NotInProfile
 statement_in Unknown before line = Err kind.UnknownStatement
-statement_in Dim before line = say axes (dim_in before line)
+statement_in Dim before line = say axes (dim_in (axes_of before) line)
 statement_in Species before line = say names (species_in before line)
 statement_in Difc before line = say (λ given. moves given.0 given.1) (difc_in before line)
 statement_in Difstep before line = say (λ given. moves given.0 given.1) (difstep_in before line)
@@ -38,13 +39,13 @@ statement_in TimeStop before line = say stops (time_in (stop_of before) line)
 statement_in TimeStep before line = say steps (time_step_in before line)
 statement_in MaxMol before line = say limits (max_mol_in before line)
 statement_in RandomSeed before line = say seeds (random_seed_in before line)
-statement_in Boundaries before line = say (λ given. walls given.0 given.1) (boundaries_in before line)
-statement_in Mol before line = say places (mol_in before line)
+statement_in Boundaries before line = say (λ given. walls given.0 given.1) (boundaries_in (axes_of before) line)
+statement_in Mol before line = say places (mol_in (axes_of before) (species_of before) line)
 statement_in Reaction before line = say of_reactions (reaction_said (species_of before) (reactions_said before) line)
 statement_in BindingRadius before line = say of_reactions (binding_radius_said (reactions_said before) line)
 statement_in ReactionProbability before line = say of_reactions (reaction_probability_said (reactions_said before) line)
 statement_in ProductPlacement before line = say of_reactions (product_placement_said (dims_of before) (species_of before) (reactions_said before) line)
-statement_in Cmd before line = say performs (cmd_in before line)
+statement_in Cmd before line = say performs (cmd_in (axes_of before) (length (commands_of before)) line)
 
 -- what a line says behind these, or its fault
 unfoldable pub line_in : List Said → Stated → Result Said Kind

@@ -9,14 +9,14 @@ use Rattle.smol_types.specs.declared.species.Species.{Species}
 use Rattle.smol_types.specs.Limits.{longest, most_steps}
 use Rattle.smol_types.specs.Placings.{placed_by}
 use Rattle.smol_types.specs.Steps.{last_step}
+use Rattle.smol_line.specs.Axes.{is_walled}
 use Rattle.smol_line.specs.Fault.{Fault, at_line}
 use Rattle.smol_line.specs.Checks.{unless, passing, with_value, there}
 use Rattle.smol_reactions.specs.Content.{are_shared, chances_of}
 use Rattle.smol_config.specs.declared.whole.Needed.{Needed}
 use Rattle.smol_config.specs.Said.{Said}
-use Rattle.smol_config.specs.Dim.{dims_of}
+use Rattle.smol_config.specs.Axes.{bounds_of, dims_of}
 use Rattle.smol_config.specs.Times.{stop_of, step_of}
-use Rattle.smol_config.specs.Walls.{bounds_of, is_walled}
 use Rattle.smol_config.specs.Reactions.{reactions_said}
 use Rattle.smol_config.specs.Content.{content_of}
 

@@ -17,7 +17,6 @@ mod tables;
 #[cfg(test)]
 mod tests;
 mod times;
-mod walls;
 mod whole;
 
 pub use law::accepted_texts_are_sound;

@@ -5,9 +5,8 @@ ghost use Rattle.smol_config.specs.declared.statement.Statement.TheVariants as s
 
 use crate::species_table::SpeciesTable;
 use crate::statement::Statement;
-use crate::walls::Bounds;
 use crate::{boundaries, cmd, dim, max_mol, mol, motion, random_seed, species, times};
-use smol_line::{Refusal, word_at};
+use smol_line::{Axes, Refusal, word_at};
 use smol_reactions::Reactions;
 use smol_text::StatedLine;
 use smol_types::{Command, Items, Kind, Placing};
@@ -16,14 +15,13 @@ use std::alloc::Global;
 /// What the lines read so far give, a quantity each.
 #[derive(Drop)]
 pub struct Tables {
-    pub dims: Option<u8>,
+    pub axes: Axes,
     pub species: SpeciesTable,
     pub start: Option<i64>,
     pub stop: Option<i64>,
     pub step: Option<i64>,
     pub max_mol: Option<u32>,
     pub seed: Option<u64>,
-    pub bounds: [Option<Bounds>; 3],
     pub placings: Items<Placing>,
     pub reactions: Reactions,
     pub commands: Items<Command>,
@@ -39,14 +37,18 @@ impl Tables {
         ensures { Holds result [] }
     {
         Tables {
-            dims: None,
+            axes: Axes {
+                dims: None,
+                x: None,
+                y: None,
+                z: None,
+            },
             species: SpeciesTable::new(alloc),
             start: None,
             stop: None,
             step: None,
             max_mol: None,
             seed: None,
-            bounds: [None, None, None],
             placings: Items::new(alloc),
             reactions: Reactions::new(alloc),
             commands: Items::new(alloc),
@@ -56,7 +58,7 @@ impl Tables {
     fn read_dim(&mut self, line: &StatedLine<'_>) -> Result<(), Refusal>
         ensures { Reads (statement_in statement.Dim) line.now self.old self.new result }
     {
-        self.dims = Some(dim::judge(self.dims, line)?);
+        self.axes.dims = Some(dim::judge(&self.axes, line)?);
         Ok(())
     }
 
@@ -122,8 +124,8 @@ impl Tables {
     fn read_boundaries(&mut self, line: &StatedLine<'_>) -> Result<(), Refusal>
         ensures { Reads (statement_in statement.Boundaries) line.now self.old self.new result }
     {
-        let (axis, given) = boundaries::judge(self.dims, &self.bounds, line)?;
-        self.bounds[axis as usize] = Some(given);
+        let (axis, given) = boundaries::judge(&self.axes, line)?;
+        boundaries::set_bounds(axis, given, &mut self.axes);
         Ok(())
     }
 
@@ -132,7 +134,7 @@ impl Tables {
         ensures { Reads (statement_in statement.Mol) line.now self.old self.new result }
     {
         let species = &self.species;
-        let placing = mol::judge(self.dims, &self.bounds, &species.names, line)?;
+        let placing = mol::judge(&self.axes, &species.names, line)?;
         self.placings.push(placing)?;
         Ok(())
     }
@@ -169,7 +171,7 @@ impl Tables {
         requires kept { IsKept self.old.reactions }
         ensures { Reads (statement_in statement.ProductPlacement) line.now self.old self.new result }
     {
-        let dims = self.dims;
+        let dims = self.axes.dims;
         let species = &self.species;
         self.reactions
             .read_product_placement(alloc, dims, &species.names, line)
@@ -178,8 +180,8 @@ impl Tables {
     fn read_cmd(&mut self, alloc: Global, line: &StatedLine<'_>) -> Result<(), Refusal>
         ensures { Reads (statement_in statement.Cmd) line.now self.old self.new result }
     {
-        let commands = self.commands.as_slice();
-        let command = cmd::judge(alloc, self.dims, &self.bounds, commands, line)?;
+        let count = self.commands.len();
+        let command = cmd::judge(alloc, &self.axes, count, line)?;
         self.commands.push(command)?;
         Ok(())
     }

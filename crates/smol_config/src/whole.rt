@@ -1,25 +1,25 @@
 //! The tests of the whole file, and what its lines make together.
-ghost use Rattle.std.specs.Prelude.{◌≡◌, ◌≤◌, ◌<ℤ◌, ◌++◌, true, false, pos, ℕ, List, Option, length, Ok, Err, None, IfOk, IfSome, OnOk, MatchResult, nat_le, sum_by, slice_index_or, unsigned_abs};
+ghost use Rattle.std.specs.Prelude.{◌≡◌, ◌≤◌, ◌<ℤ◌, ◌++◌, true, false, pos, ℕ, List, Option, length, Ok, Err, IfOk, IfSome, OnOk, MatchResult, nat_le, sum_by, unsigned_abs};
 ghost use Rattle.std.specs.List.{list_all};
 ghost use Rattle.smol_types.specs.declared.fault.Kind.{Kind as TheKind};
 ghost use Rattle.smol_types.specs.Limits.{latest, most_species};
 ghost use Rattle.smol_types.specs.Placings.{placed_by};
 ghost use Rattle.smol_line.specs.declared.refusal.Refusal.TheVariants.{At};
+ghost use Rattle.smol_line.specs.Axes.{walls_at, walls_of};
 ghost use Rattle.smol_line.specs.Fault.{fault_at};
 ghost use Rattle.smol_reactions.specs.Content.{chances_of};
 ghost use Rattle.smol_reactions.specs.Table.{IsKept};
 ghost use Rattle.smol_config.specs.Reactions.{reactions_said};
 ghost use Rattle.smol_config.specs.Said.{Said};
 ghost use Rattle.smol_config.specs.Motion.{difstep_of};
-ghost use Rattle.smol_config.specs.Content.{content_of, walls_at, walls_of};
+ghost use Rattle.smol_config.specs.Content.{content_of};
 ghost use Rattle.smol_config.specs.Tables.{AreSmall, Holds, IsReached, species_made};
 ghost use Rattle.smol_config.specs.Whole.{bounded, has_chances, has_difstep, has_few_steps, needed_in, whole_in};
 
 use crate::motion::{MOST_DIFSTEP, Motion, difstep_of};
 use crate::species_table::SpeciesTable;
 use crate::tables::Tables;
-use crate::walls::{Bounds, is_walled};
-use smol_line::{Refusal, unless};
+use smol_line::{Axes, Bounds, Refusal, is_walled, unless};
 use smol_types::{Config, Draft, Items, Kind, Name, Need, Placing, Species, Wall, last_step};
 use std::alloc::{AllocError, Global};
 
@@ -42,14 +42,14 @@ pub struct Needed {
 fn needed_in(tables: &Tables) -> Result<Needed, Kind>
     ensures { (before : List Said) → Holds tables.now before → result ≡ needed_in before }
 {
-    let Some(dims) = tables.dims else {
+    let Some(dims) = tables.axes.dims else {
         return Err(Kind::Missing(Need::Dim));
     };
-    let x = is_walled(dims, 0, &tables.bounds[0]);
+    let x = is_walled(dims, 0, &tables.axes.x);
     unless(x, Kind::Missing(Need::Boundaries(0)))?;
-    let y = is_walled(dims, 1, &tables.bounds[1]);
+    let y = is_walled(dims, 1, &tables.axes.y);
     unless(y, Kind::Missing(Need::Boundaries(1)))?;
-    let z = is_walled(dims, 2, &tables.bounds[2]);
+    let z = is_walled(dims, 2, &tables.axes.z);
     unless(z, Kind::Missing(Need::Boundaries(2)))?;
     let Some(stop) = tables.stop else {
         return Err(Kind::Missing(Need::TimeStop));
@@ -85,17 +85,17 @@ fn add_walls(walls: &mut Items<Wall>, axis: u8, bounds: &Option<Bounds>) -> Resu
 }
 
 // The walls of the axes in use, in order.
-#[tactic(auto, unfolding(crate::specs::Content::walls_of))]
-fn walls_of(alloc: Global, bounds: &[Option<Bounds>; 3]) -> Result<Items<Wall>, AllocError>
-    requires x { IfSome (slice_index_or bounds.now 0 None) AreSmall }
-    requires y { IfSome (slice_index_or bounds.now 1 None) AreSmall }
-    requires z { IfSome (slice_index_or bounds.now 2 None) AreSmall }
-    ensures { IfOk result (λ walls. walls ≡ walls_of (slice_index_or bounds.now 0 None) (slice_index_or bounds.now 1 None) (slice_index_or bounds.now 2 None)) }
+#[tactic(auto, unfolding(smol_line::specs::Axes::walls_of))]
+fn walls_of(alloc: Global, axes: &Axes) -> Result<Items<Wall>, AllocError>
+    requires x { IfSome axes.now.x AreSmall }
+    requires y { IfSome axes.now.y AreSmall }
+    requires z { IfSome axes.now.z AreSmall }
+    ensures { IfOk result (λ walls. walls ≡ walls_of axes.now) }
 {
     let mut walls = Items::new(alloc);
-    add_walls(&mut walls, 0, &bounds[0])?;
-    add_walls(&mut walls, 1, &bounds[1])?;
-    add_walls(&mut walls, 2, &bounds[2])?;
+    add_walls(&mut walls, 0, &axes.x)?;
+    add_walls(&mut walls, 1, &axes.y)?;
+    add_walls(&mut walls, 2, &axes.z)?;
     Ok(walls)
 }
 
@@ -157,9 +157,9 @@ fn draft_of(alloc: Global, needed: Needed, tables: Tables) -> Result<Draft, Refu
     requires stop { unsigned_abs needed.stop ≤ latest }
     requires step { unsigned_abs needed.step ≤ latest }
     requires step_above { pos 0 <ℤ needed.step }
-    requires x { IfSome (slice_index_or tables.bounds 0 None) AreSmall }
-    requires y { IfSome (slice_index_or tables.bounds 1 None) AreSmall }
-    requires z { IfSome (slice_index_or tables.bounds 2 None) AreSmall }
+    requires x { IfSome tables.axes.x AreSmall }
+    requires y { IfSome tables.axes.y AreSmall }
+    requires z { IfSome tables.axes.z AreSmall }
     requires species { length tables.species.names ≤ most_species }
     requires kept { IsKept tables.reactions }
     ensures content { IfOk result (λ draft. (before : List Said) → Holds tables before → draft ≡ content_of needed before) }
@@ -177,7 +177,7 @@ fn draft_of(alloc: Global, needed: Needed, tables: Tables) -> Result<Draft, Refu
         .reactions
         .are_shared(tables.species.names.len() as u16);
     unless(shared, Kind::ProbabilitySum)?;
-    let walls = walls_of(alloc, &tables.bounds)?;
+    let walls = walls_of(alloc, &tables.axes)?;
     let reactions = tables.reactions.into_list();
     Ok(Draft {
         dims: needed.dims,

@@ -2,6 +2,7 @@ use Rattle.std.proofs.Common.{◌≡◌, ◌≤◌, ℕ, true, length, subst, Li
 use Rattle.std.proofs.lemmas.Result.{err_from_is_err_and}
 use Rattle.smol_types.specs.declared.draft.Draft.{Draft}
 use Rattle.smol_types.specs.declared.fault.Kind.{Kind}
+use Rattle.smol_line.specs.declared.axes.Axes.{Axes}
 use Rattle.smol_reactions.specs.Content.{chances_of}
 use Rattle.smol_config.specs.Reactions.{reactions_said}
 use Rattle.smol_config.specs.Said.{Said}
@@ -25,9 +26,9 @@ draft_of-requires c =
       stop = stop;
       step = step.0;
       step_above = step.1;
-      x = small_walls _ 0 _ _ holds.bounds.x h.x;
-      y = small_walls _ 1 _ _ holds.bounds.y h.y;
-      z = small_walls _ 2 _ _ holds.bounds.z h.z;
+      x = small_walls _ 0 _ _ (ap (λ (axes : Axes). axes.x) holds.axes) h.axes.x;
+      y = small_walls _ 1 _ _ (ap (λ (axes : Axes). axes.y) holds.axes) h.axes.y;
+      z = small_walls _ 2 _ _ (ap (λ (axes : Axes). axes.z) holds.axes) h.axes.z;
       species = subst (λ (names : List (List ℕ)). length names ≤ 256) (sym holds.species) h.species;
       kept = holds.kept;
     }
