@@ -1,5 +1,5 @@
 -- The table of a block with what one line more says.
-use Rattle.std.proofs.Common.{◌≡◌, ◌+◌, ◌&&◌, ◌++◌, ◌∷◌, [], ℕ, zero, suc, List, length, get_or, slice_index_or, Option, None, Some, Result, Ok, Err, OnOk, arith, refl, sym, ap, ◌∙◌, subst, if◌then◌else◌}
+use Rattle.std.proofs.Common.{◌≡◌, ◌&&◌, ◌++◌, ◌∷◌, [], ℕ, zero, suc, List, length, get_or, slice_index_or, None, Result, Ok, Err, OnOk, arith, refl, sym, ap, ◌∙◌, if◌then◌else◌}
 use Rattle.std.specs.Result.{IsOkAnd}
 use Rattle.std.proofs.lemmas.List.{length-append}
 use Rattle.smol_text.specs.Reading.{Stated}
@@ -17,7 +17,7 @@ use Rattle.smol_blocks.specs.declared.surface_statement.SurfaceStatement.TheVari
 use Rattle.smol_blocks.specs.declared.surface_table.SurfaceTable.{SurfaceTable}
 use Rattle.smol_blocks.specs.Jump.{jump_in}
 use Rattle.smol_blocks.specs.Panel.{Named, panel_in}
-use Rattle.smol_blocks.specs.Surface.{SurfaceSaid, acts, shows, leads, Known, means_face, nearer, led_by, names_of, rects_of, say, surface_line_in}
+use Rattle.smol_blocks.specs.Surface.{SurfaceSaid, acts, shows, leads, Known, means_face, nearer, led_by, rects_of, say, surface_line_in}
 use Rattle.smol_blocks.specs.SurfaceTable.{ArePaired, AddsPanel, AddsJump, IsReady, Holds, Reads}
 
 -- a value of which the fact holds

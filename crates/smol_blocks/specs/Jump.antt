@@ -1,5 +1,5 @@
 -- `jump P FACE ARROW Q FACE`: where a jump from a face of a panel leads. Both panels are of the surface, across one axis and with equal edges.
-use Rattle.std.specs.Prelude.{ℕ, ◌==◌, ◌&&◌, Bool, true, false, ℤ, pos, ◌-ℤ◌, List, [], ◌∷◌, Result, Ok, Err, if◌then◌else◌, codes, slice_index_or}
+use Rattle.std.specs.Prelude.{ℕ, ◌==◌, ◌&&◌, Bool, true, false, ℤ, ◌-ℤ◌, List, [], ◌∷◌, Result, Ok, Err, if◌then◌else◌, codes, slice_index_or}
 use Rattle.std.specs.Ordering.{int_eq}
 use Rattle.std.specs.Str.{bytes_eq}
 use Rattle.smol_geom.specs.declared.rect.Rect.{Rect}
@@ -7,7 +7,6 @@ use Rattle.smol_geom.specs.Axes.{on_axis}
 use Rattle.smol_text.specs.Reading.{Stated}
 use Rattle.smol_types.specs.declared.fault.Kind.{Kind}
 use Rattle.smol_types.specs.declared.fault.Kind.TheVariants.{BadJump}
-use Rattle.smol_types.specs.declared.surface.Face.{Face}
 use Rattle.smol_line.specs.Words.{word_at}
 use Rattle.smol_line.specs.Checks.{unless, word_count, passing, with_value}
 use Rattle.smol_line.specs.SpeciesWord.{number_in}

@@ -4,3 +4,7 @@ pub mod Panel
 pub mod Jump
 pub mod Surface
 pub mod SurfaceTable
+pub mod Compartment
+pub mod Blocks
+pub mod BlocksTable
+pub mod BlocksSound

@@ -1,8 +1,10 @@
-//! Reads the blocks of a configuration: the lines of a surface.
+//! Reads the blocks of a configuration: the lines of surfaces and of compartments.
 #![tactic(auto)]
 
 mod action;
 mod action_table;
+mod block_statement;
+mod blocks;
 mod faces;
 mod jump;
 mod panel;
@@ -15,6 +17,8 @@ mod tests;
 
 pub use action::Acting;
 pub use action_table::ActionTable;
+pub use block_statement::BlockStatement;
+pub use blocks::{Blocks, OpenBlock};
 pub use faces::Faces;
 pub use jump::Leading;
 pub use panel::Facing;

@@ -1,4 +1,4 @@
-use Rattle.std.proofs.Common.{Ok, Err, ap, ◌∙◌}
+use Rattle.std.proofs.Common.{Ok, Err}
 use Rattle.std.proofs.lemmas.Result.{err_from_is_err_and}
 use Rattle.smol_blocks.specs.SurfaceTable.{known_of}
 use Rattle.smol_blocks.proofs.SurfaceHeld.{jump_reads}
