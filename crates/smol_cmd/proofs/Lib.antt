@@ -1,0 +1,4 @@
+pub mod WhoLemmas
+pub mod EchoLemmas
+pub mod OutputNames
+pub mod Commanded

@@ -1,0 +1,1 @@
+//! What lines give, and the fault of each line that is refused.
