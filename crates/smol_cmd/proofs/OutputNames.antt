@@ -1,13 +1,19 @@
 -- Names of output files, word by word.
-use Rattle.std.proofs.Common.{◌≡◌, ℕ, ◌+◌, ◌<◌, ◌≤◌, ◌&&◌, Bool, true, false, not, nat_lt, List, [], ◌∷◌, ◌++◌, length, drop, get_or, Option, None, Some, refl, ap, ◌∙◌, sym, arith, append_assoc, if◌then◌else◌}
+use Rattle.std.proofs.Common.{◌≡◌, ℕ, ◌+◌, ◌<◌, ◌≤◌, ◌&&◌, Bool, true, false, not, nat_lt, List, [], ◌∷◌, ◌++◌, length, drop, get_or, Option, None, Some, Ok, nat_le, refl, ap, ◌∙◌, sym, arith, append_assoc, subst, length-append, if◌then◌else◌}
 use Rattle.std.proofs.lemmas.Bool.Decides.{nat_tests}
 use Rattle.std.proofs.lemmas.List.{at_drop_more, at_drop_all, append-nil}
 use Rattle.std.specs.List.{list_all}
 use Rattle.std.specs.Str.{IsAscii, IsUtf8}
 use Rattle.std.proofs.lemmas.Str.{IsUtf8-from_ascii}
 use Rattle.std.proofs.lemmas.Str.Ascii.{IsAscii-nil, IsAscii-cons}
+use Rattle.smol_text.specs.Reading.{Stated, words_of}
 use Rattle.smol_types.specs.declared.fault.Kind.{Kind}
-use Rattle.smol_cmd.specs.OutputFiles.{file_names, first_of, is_plain, is_standard, names_fault, output_fault}
+use Rattle.smol_types.specs.declared.fault.Kind.TheVariants.{TooMany, WrongWordCount}
+use Rattle.smol_types.specs.Limits.{most_outputs}
+use Rattle.smol_line.specs.Checks.{unless}
+use Rattle.smol_line.proofs.Passing.{passed}
+use Rattle.smol_cmd.specs.OutputFiles.{file_names, first_of, given_names, is_plain, is_standard, names_fault, output_fault, output_files_in}
+use Rattle.smol_cmd.proofs.Passing.{held, same_value}
 
 plain_is_ascii : (byte : ℕ) → is_plain byte ≡ true → byte < 128
 plain_is_ascii byte plain = grind (arith, nat_tests)
@@ -59,3 +65,15 @@ fault_found outputs first rest kind fails = fault_parts outputs first rest ∙ a
 
 pub names_end : (words : List (List ℕ)) (i : ℕ) → length words ≤ i → file_names (drop i words) ≡ []
 names_end words i past = at_drop_all file_names words i past
+
+-- names that a line gives leave no more files than there may be
+pub files_are_few : (outputs : List (List ℕ)) (line : Stated) (more : List (List ℕ)) → output_files_in outputs line ≡ Ok more → length (outputs ++ more) ≤ most_outputs
+unfolding output_files_in
+files_are_few outputs line more is =
+    let two = passed (unless (nat_le 2 (length (words_of line))) WrongWordCount) _ _ more is in
+    let new = passed (names_fault outputs (given_names line)) _ _ more two.1 in
+    let few = held (nat_le (length outputs + length (given_names line)) most_outputs) TooMany [] _ more new.1 in
+    let test = few.0 in
+    let size : length outputs + length (given_names line) ≤ most_outputs = grind (arith, nat_tests) in
+    let both = length-append outputs (given_names line) in
+    subst (λ (more : List (List ℕ)). length (outputs ++ more) ≤ most_outputs) (same_value (given_names line) more _ refl few.1) (omega (arith, both))

@@ -105,7 +105,7 @@ replace_in known line at =
     Ok (act.Replace who to p)))))
 
 -- the place between the walls whose coordinates stand from a place of the line on, one for each axis in use
-abbrev pub place_in : Axes → Stated → ℕ → Result Place Kind
+unfoldable pub place_in : Axes → Stated → ℕ → Result Place Kind
 place_in axes line first =
     with_value (read_axes coordinate_between (pos 1) first axes line) (λ coordinates. Ok (record { 0 = coordinates }))
 
@@ -116,8 +116,8 @@ point_source_in known line at =
     passing (word_count (at + 3 + dims) line ∷ [])
     (with_value (species_word_in known.species (word_at line (at + 1))) (λ species.
     with_value (count_in 0 most_molecules (word_at line (at + 2))) (λ n.
-    with_value (read_axes coordinate_between (pos 1) (at + 3) known.axes line) (λ place.
-    Ok (act.PointSource species n (record { 0 = place })))))))
+    with_value (place_in known.axes line (at + 3)) (λ place.
+    Ok (act.PointSource species n place))))))
 
 -- what the words of a line from a place on do, where the word there is this one
 abbrev pub act_of : Verb → Known → Stated → ℕ → Result Act Kind

@@ -169,7 +169,7 @@ fn coordinate_at(
 }
 
 // The place whose coordinates stand from the third word behind a place on.
-#[tactic(auto, unfolding(smol_line::specs::Axes::read_axes))]
+#[tactic(auto, unfolding(crate::specs::Act::place_in, smol_line::specs::Axes::read_axes))]
 fn place_in(axes: &Axes, line: &StatedLine<'_>, at: usize) -> Result<Place, Kind>
     requires { at ≤ length (words_of line.now) }
     ensures { result ≡ place_in axes.now line.now (at + 3) }

@@ -6,6 +6,7 @@ mod cmd;
 mod condition;
 mod echo;
 mod known;
+mod law;
 mod outlet;
 mod output_files;
 mod places;
@@ -18,4 +19,5 @@ mod verb;
 mod who;
 
 pub use cmd::read_cmd;
+pub use law::{commands_are_sound, commands_stay_sound, output_files_are_few};
 pub use output_files::read_output_files;
