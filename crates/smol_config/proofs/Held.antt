@@ -1,5 +1,6 @@
 -- The tables with what one line more says.
-use Rattle.std.proofs.Common.{◌≡◌, ◌<◌, ◌++◌, ◌∷◌, [], ◌&&◌, ℕ, zero, suc, ℤ, List, length, Option, None, Some, Result, Ok, Err, OnOk, nat_le, nat_lt, slice_index_or, arith, refl, ap, ◌∙◌, if◌then◌else◌}
+use Rattle.std.proofs.Common.{◌≡◌, ◌<◌, ◌++◌, ◌∷◌, [], ◌&&◌, true, ℕ, zero, suc, ℤ, List, length, Option, None, Some, Result, Ok, Err, OnOk, nat_le, nat_lt, slice_index_or, arith, refl, sym, ap, ◌∙◌, if◌then◌else◌}
+use Rattle.std.specs.Result.{IsOkAnd}
 use Rattle.smol_text.specs.Reading.{Stated}
 use Rattle.smol_types.specs.declared.command.Command.{Command}
 use Rattle.smol_types.specs.declared.fault.Kind.{Kind}
@@ -10,6 +11,15 @@ use Rattle.smol_line.specs.declared.refusal.Refusal.{Refusal}
 use Rattle.smol_line.specs.declared.refusal.Refusal.TheVariants.{At, OutOfMemory}
 use Rattle.smol_line.specs.declared.species_word.Chosen.{Chosen}
 use Rattle.smol_line.specs.SpeciesWord.{is_chosen}
+use Rattle.smol_blocks.specs.declared.block_statement.BlockStatement.{BlockStatement}
+use Rattle.smol_blocks.specs.declared.blocks.Blocks.{Blocks}
+use Rattle.smol_blocks.specs.declared.blocks.OpenBlock.{OpenBlock}
+use Rattle.smol_blocks.specs.declared.blocks.OpenBlock.TheVariants as open_block
+use Rattle.smol_blocks.specs.Blocks.{Block, no_block, in_surface, in_compartment, BlockSaid, block_line_in, block_of, compartment_names, is_outside}
+use Rattle.smol_blocks.specs.BlocksTable.{Holds as HoldsBlocks, HoldsBlock, IsBlockKept, IsKept as AreBlocksKept, Reads as ReadsBlocks}
+use Rattle.smol_cmd.specs.Cmd.{cmd_in}
+use Rattle.smol_cmd.specs.Known.{known}
+use Rattle.smol_cmd.specs.OutputFiles.{output_files_in}
 use Rattle.smol_reactions.specs.declared.reactions.Reactions.{Reactions}
 use Rattle.smol_reactions.specs.ReactionSaid.{ReactionSaid}
 use Rattle.smol_reactions.specs.Table.{IsKept, Reads as ReadsReactions}
@@ -18,13 +28,17 @@ use Rattle.smol_config.specs.declared.species_table.SpeciesTable.{SpeciesTable}
 use Rattle.smol_config.specs.declared.statement.Statement.{Statement}
 use Rattle.smol_config.specs.declared.statement.Statement.TheVariants as statement
 use Rattle.smol_config.specs.declared.tables.Tables.{Tables}
-use Rattle.smol_config.specs.Said.{Said, passed_over, axes, names, moves, starts, stops, steps, limits, seeds, walls, places, of_reactions, performs, say}
+use Rattle.smol_config.specs.Said.{Said, passed_over, axes, names, moves, starts, stops, steps, limits, seeds, walls, places, of_reactions, of_blocks, writes, performs, say}
 use Rattle.smol_config.specs.Species.{further_words, species_in, species_of}
 use Rattle.smol_config.specs.Motion.{still}
 use Rattle.smol_config.specs.Reader.{statement_in}
 use Rattle.smol_config.specs.Axes.{axes_of}
 use Rattle.smol_config.specs.Reactions.{reactions_said}
-use Rattle.smol_config.specs.Tables.{Holds, Reads, with_bounds}
+use Rattle.smol_config.specs.Blocks.{blocks_said}
+use Rattle.smol_config.specs.Mol.{mol_in}
+use Rattle.smol_config.specs.CompartmentMol.{compartment_mol_in}
+use Rattle.smol_config.specs.Commands.{commands_of, known_of}
+use Rattle.smol_config.specs.Tables.{Holds, IsOutside, Reads, with_bounds}
 
 -- the walls of one axis more
 axes_with : (before : List Said) (axis : ℕ) (new : Bounds) → axis < 3 → with_bounds axis new (axes_of before) ≡ axes_of (walls axis new ∷ before)
@@ -46,6 +60,9 @@ passed_over_held tables before h = record {
   placings = h.placings;
   reactions = h.reactions;
   kept = h.kept;
+  blocks = h.blocks;
+  blocks_kept = h.blocks_kept;
+  outputs = h.outputs;
   commands = h.commands;
 }
 
@@ -62,6 +79,9 @@ axes_held tables before dims h = record {
   placings = h.placings;
   reactions = h.reactions;
   kept = h.kept;
+  blocks = h.blocks;
+  blocks_kept = h.blocks_kept;
+  outputs = h.outputs;
   commands = h.commands;
 }
 
@@ -78,6 +98,9 @@ start_held tables before time h = record {
   placings = h.placings;
   reactions = h.reactions;
   kept = h.kept;
+  blocks = h.blocks;
+  blocks_kept = h.blocks_kept;
+  outputs = h.outputs;
   commands = h.commands;
 }
 
@@ -94,6 +117,9 @@ stop_held tables before time h = record {
   placings = h.placings;
   reactions = h.reactions;
   kept = h.kept;
+  blocks = h.blocks;
+  blocks_kept = h.blocks_kept;
+  outputs = h.outputs;
   commands = h.commands;
 }
 
@@ -110,6 +136,9 @@ step_held tables before time h = record {
   placings = h.placings;
   reactions = h.reactions;
   kept = h.kept;
+  blocks = h.blocks;
+  blocks_kept = h.blocks_kept;
+  outputs = h.outputs;
   commands = h.commands;
 }
 
@@ -126,6 +155,9 @@ limit_held tables before count h = record {
   placings = h.placings;
   reactions = h.reactions;
   kept = h.kept;
+  blocks = h.blocks;
+  blocks_kept = h.blocks_kept;
+  outputs = h.outputs;
   commands = h.commands;
 }
 
@@ -142,6 +174,9 @@ seed_held tables before seed h = record {
   placings = h.placings;
   reactions = h.reactions;
   kept = h.kept;
+  blocks = h.blocks;
+  blocks_kept = h.blocks_kept;
+  outputs = h.outputs;
   commands = h.commands;
 }
 
@@ -158,6 +193,9 @@ walls_held tables before axis new all within added h = record {
   placings = h.placings;
   reactions = h.reactions;
   kept = h.kept;
+  blocks = h.blocks;
+  blocks_kept = h.blocks_kept;
+  outputs = h.outputs;
   commands = h.commands;
 }
 
@@ -174,6 +212,9 @@ placings_held tables before placing all added h = record {
   placings = added ∙ ap (λ old. old ++ placing ∷ []) h.placings;
   reactions = h.reactions;
   kept = h.kept;
+  blocks = h.blocks;
+  blocks_kept = h.blocks_kept;
+  outputs = h.outputs;
   commands = h.commands;
 }
 
@@ -190,6 +231,9 @@ commands_held tables before command all added h = record {
   placings = h.placings;
   reactions = h.reactions;
   kept = h.kept;
+  blocks = h.blocks;
+  blocks_kept = h.blocks_kept;
+  outputs = h.outputs;
   commands = added ∙ ap (λ old. old ++ command ∷ []) h.commands;
 }
 
@@ -206,6 +250,9 @@ motions_held tables before chosen motion species same moved h = record {
   placings = h.placings;
   reactions = h.reactions;
   kept = h.kept;
+  blocks = h.blocks;
+  blocks_kept = h.blocks_kept;
+  outputs = h.outputs;
   commands = h.commands;
 }
 
@@ -231,21 +278,51 @@ reactions_read one line tables reactions (Ok done) rule is reads kept = λ befor
         placings = h.placings;
         reactions = read.2;
         kept = kept;
+        blocks = h.blocks;
+        blocks_kept = h.blocks_kept;
+        outputs = h.outputs;
         commands = h.commands;
       },
     )
 reactions_read one line tables reactions (Err (At kind)) rule is reads kept = λ before h. is before ∙ ap (say of_reactions) (reads before h (reactions_said before) h.reactions)
 reactions_read one line tables reactions (Err OutOfMemory) rule is reads kept = tt
 
+-- where no block is open, the tables of blocks fit any number of species
+block_kept_outside : (species more : ℕ) (table : Blocks) (kept_block : OpenBlock) (block : Block) → is_outside block ≡ true → HoldsBlock kept_block block → IsBlockKept species table kept_block → IsBlockKept more table kept_block
+block_kept_outside species more table open_block.Nothing block outside held kept = tt
+block_kept_outside species more table (open_block.Surface line surface) no_block outside held kept = absurd held
+block_kept_outside species more table (open_block.Surface line surface) (in_surface opened lines) outside held kept = absurd cc
+block_kept_outside species more table (open_block.Surface line surface) (in_compartment opened lines) outside held kept = absurd held
+block_kept_outside species more table (open_block.Compartment line compartment) block outside held kept = kept
+
+kept_outside : (species more : ℕ) (table : Blocks) (said : List BlockSaid) → is_outside (block_of said) ≡ true → HoldsBlocks table said → AreBlocksKept species table → AreBlocksKept more table
+kept_outside species more table said outside held kept = record {
+  surface_count = kept.surface_count;
+  surfaces = kept.surfaces;
+  panel_count = kept.panel_count;
+  compartment_count = kept.compartment_count;
+  block = block_kept_outside species more table table.block (block_of said) outside held.block kept.block;
+}
+
+-- the rule of a line of a block, by what the tables hold
+block_rule : (one : BlockStatement) (line : Stated) (tables : Tables) (before : List Said) → Holds tables before → block_line_in one (axes_of before) (species_of before) (blocks_said before) line ≡ block_line_in one tables.axes tables.species.names (blocks_said before) line
+block_rule one line tables before h = λ j. block_line_in one (sym h.axes j) (sym h.species j) (blocks_said before) line
+
+-- the names that a line without a fault gives
+more_of : (rule : Result (List (List ℕ)) Kind) (new old : List (List ℕ)) → IsOkAnd rule (λ more. new ≡ old ++ more) → (more : List (List ℕ)) × (rule ≡ Ok more) × (new ≡ old ++ more)
+more_of (Ok more) new old is = (more, refl, is)
+more_of (Err kind) new old is = absurd is
+
 -- how the reading of a `species` line ends
 pub species_reads : {T : Type 0} (line : Stated) (tables : Tables) (species : SpeciesTable) (result : Result T Refusal)
+    → IsOutside tables
     → OnOk result (species.names ≡ tables.species.names ++ further_words line)
     → OnOk result ((number : ℕ) → slice_index_or species.motions.items number still ≡ slice_index_or tables.species.motions.items number still)
     → OnOk result ((before : List Said) → tables.species.names ≡ species_of before → species_in before line ≡ Ok (further_words line))
     → ((kind : Kind) (before : List Said) → result ≡ Err (At kind) → tables.species.names ≡ species_of before → species_in before line ≡ Err kind)
     → Reads (statement_in statement.Species) line tables (record tables { species = species }) result
 unfolding statement_in
-species_reads line tables species (Ok done) added same accepted refused = λ before h. (
+species_reads line tables species (Ok done) outside added same accepted refused = λ before h. (
   names (further_words line),
   ap (say names) (accepted before h.species),
   record {
@@ -260,8 +337,87 @@ species_reads line tables species (Ok done) added same accepted refused = λ bef
     placings = h.placings;
     reactions = h.reactions;
     kept = h.kept;
+    blocks = h.blocks;
+    blocks_kept = kept_outside (length tables.species.names) (length species.names) tables.blocks (blocks_said before) (outside before h) h.blocks h.blocks_kept;
+    outputs = h.outputs;
     commands = h.commands;
   },
 )
-species_reads line tables species (Err (At kind)) added same accepted refused = λ before h. ap (say names) (refused kind before refl h.species)
-species_reads line tables species (Err OutOfMemory) added same accepted refused = tt
+species_reads line tables species (Err (At kind)) outside added same accepted refused = λ before h. ap (say names) (refused kind before refl h.species)
+species_reads line tables species (Err OutOfMemory) outside added same accepted refused = tt
+
+-- how the reading of a line of a block ends
+pub blocks_read : {T : Type 0} (one : BlockStatement) (line : Stated) (tables : Tables) (blocks : Blocks) (result : Result T Refusal)
+    → OnOk result (AreBlocksKept (length tables.species.names) blocks)
+    → ReadsBlocks (λ said. block_line_in one tables.axes tables.species.names said line) tables.blocks blocks result
+    → Reads (statement_in (statement.Block one)) line tables (record tables { blocks = blocks }) result
+unfolding statement_in
+blocks_read one line tables blocks (Ok done) kept reads = λ before h.
+    let read = reads (blocks_said before) h.blocks in (
+      of_blocks read.0,
+      ap (say of_blocks) (block_rule one line tables before h ∙ read.1),
+      record {
+        axes = h.axes;
+        species = h.species;
+        motions = h.motions;
+        start = h.start;
+        stop = h.stop;
+        step = h.step;
+        max_mol = h.max_mol;
+        seed = h.seed;
+        placings = h.placings;
+        reactions = h.reactions;
+        kept = h.kept;
+        blocks = read.2;
+        blocks_kept = kept;
+        outputs = h.outputs;
+        commands = h.commands;
+      },
+    )
+blocks_read one line tables blocks (Err (At kind)) kept reads = λ before h.
+    ap (say of_blocks) (block_rule one line tables before h ∙ reads (blocks_said before) h.blocks)
+blocks_read one line tables blocks (Err OutOfMemory) kept reads = tt
+
+-- how the reading of an `output_files` line ends
+pub outputs_read : {T : Type 0} (line : Stated) (tables : Tables) (outputs : List (List ℕ)) (result : Result T Refusal)
+    → OnOk result (IsOkAnd (output_files_in tables.outputs line) (λ more. outputs ≡ tables.outputs ++ more))
+    → ((kind : Kind) → result ≡ Err (At kind) → output_files_in tables.outputs line ≡ Err kind)
+    → Reads (statement_in statement.OutputFiles) line tables (record tables { outputs = outputs }) result
+unfolding statement_in
+outputs_read line tables outputs (Ok done) accepted refused = λ before h.
+    let more = more_of (output_files_in tables.outputs line) outputs tables.outputs accepted in (
+      writes more.0,
+      ap (say writes) (ap (λ known. output_files_in known line) (sym h.outputs) ∙ more.1),
+      record {
+        axes = h.axes;
+        species = h.species;
+        motions = h.motions;
+        start = h.start;
+        stop = h.stop;
+        step = h.step;
+        max_mol = h.max_mol;
+        seed = h.seed;
+        placings = h.placings;
+        reactions = h.reactions;
+        kept = h.kept;
+        blocks = h.blocks;
+        blocks_kept = h.blocks_kept;
+        outputs = more.2 ∙ ap (λ old. old ++ more.0) h.outputs;
+        commands = h.commands;
+      },
+    )
+outputs_read line tables outputs (Err (At kind)) accepted refused = λ before h.
+    ap (say writes) (ap (λ known. output_files_in known line) (sym h.outputs) ∙ refused kind refl)
+outputs_read line tables outputs (Err OutOfMemory) accepted refused = tt
+
+-- the rules of other lines, by what the tables hold
+pub mol_rule : (line : Stated) (tables : Tables) (before : List Said) → Holds tables before → mol_in (axes_of before) (species_of before) line ≡ mol_in tables.axes tables.species.names line
+mol_rule line tables before h = λ j. mol_in (sym h.axes j) (sym h.species j) line
+
+pub compartment_mol_rule : (line : Stated) (tables : Tables) (before : List Said) → Holds tables before → compartment_mol_in (axes_of before) (species_of before) (compartment_names (blocks_said before)) line ≡ compartment_mol_in tables.axes tables.species.names tables.blocks.compartment_names line
+compartment_mol_rule line tables before h = λ j. compartment_mol_in (sym h.axes j) (sym h.species j) (sym h.blocks.compartment_names j) line
+
+pub cmd_rule : (line : Stated) (tables : Tables) (before : List Said) (count : ℕ) → count ≡ length tables.commands → Holds tables before → cmd_in (known_of before) (length (commands_of before)) line ≡ cmd_in (known tables.axes tables.species.names tables.blocks.compartment_names tables.outputs) count line
+cmd_rule line tables before count counted h =
+    let counts = sym (counted ∙ ap (λ (all : List Command). length all) h.commands) in
+    λ j. cmd_in (known (sym h.axes j) (sym h.species j) (sym h.blocks.compartment_names j) (sym h.outputs j)) (counts j) line

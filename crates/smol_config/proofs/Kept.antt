@@ -1,69 +1,69 @@
 -- What holds so far is kept by what each line says.
-use Rattle.std.proofs.Common.{◌≡◌, ◌+◌, ◌<◌, ◌≤◌, ◌&&◌, ◌||◌, Bool, true, false, ℕ, zero, suc, ℤ, pos, ◌<ℤ◌, nat_le, List, [], ◌∷◌, ◌++◌, length, All, Option, None, Some, IfSome, IsSomeAnd, unsigned_abs, arith, refl, subst}
+use Rattle.std.proofs.Common.{◌≡◌, ◌+◌, ◌<◌, ◌≤◌, ◌&&◌, ◌||◌, Bool, true, false, ℕ, zero, suc, ℤ, pos, ◌<ℤ◌, nat_le, List, [], ◌∷◌, ◌++◌, length, All, Option, None, Some, IfSome, IsSomeAnd, unsigned_abs, arith, refl, sym, subst}
 use Rattle.std.proofs.lemmas.Bool.Decides.{nat_tests}
 use Rattle.std.proofs.lemmas.List.{length-append}
 use Rattle.std.proofs.lemmas.List.Elements.{All-push, All-weaker}
-use Rattle.smol_types.specs.declared.command.Act.{Act}
-use Rattle.smol_types.specs.declared.command.Act.TheVariants as act
 use Rattle.smol_types.specs.declared.command.Command.{Command}
-use Rattle.smol_types.specs.declared.command.Test.{Test}
-use Rattle.smol_types.specs.declared.command.Test.TheVariants as test
 use Rattle.smol_types.specs.declared.placing.Placing.{Placing}
 use Rattle.smol_types.specs.declared.placing.Placing.TheVariants as placing
 use Rattle.smol_types.specs.declared.wall.Wall.{Wall}
-use Rattle.smol_types.specs.Commands.{AreSpecies, IsTest, IsAct, IsCommand}
+use Rattle.smol_types.specs.Commands.{IsCommand}
 use Rattle.smol_types.specs.Placings.{IsPlacing}
 use Rattle.smol_line.specs.declared.axes.Axes.{Axes}
 use Rattle.smol_line.specs.declared.axes.Bounds.{Bounds}
 use Rattle.smol_line.specs.Axes.{AreAxes, AreSettled, IsBounded, are_walled, is_walled, walls_of}
 use Rattle.smol_line.specs.declared.species_word.Chosen.{Chosen}
+use Rattle.smol_blocks.specs.Blocks.{BlockSaid, opens_surface, of_surface, closes_surface, opens_compartment, of_compartment, closes_compartment, compartments_of}
+use Rattle.smol_blocks.specs.BlocksSound.{AreBlocks, AreBlocksOf}
+use Rattle.smol_cmd.proofs.Sound.{commands_stay_sound}
 use Rattle.smol_reactions.specs.ReactionSaid.{ReactionSaid}
 use Rattle.smol_reactions.specs.Sound.{AreReactions}
 use Rattle.smol_reactions.proofs.SoundSaid.{dims_keep, species_keep}
 use Rattle.smol_config.specs.declared.motion.Motion.{Motion}
-use Rattle.smol_config.specs.Said.{Said, passed_over, axes, names, moves, starts, stops, steps, limits, seeds, walls, places, of_reactions, performs}
+use Rattle.smol_config.specs.Said.{Said, passed_over, axes, names, moves, starts, stops, steps, limits, seeds, walls, places, of_reactions, of_blocks, writes, performs}
 use Rattle.smol_config.specs.Axes.{axes_of, bounds_of, dims_of}
 use Rattle.smol_config.specs.Species.{species_of}
 use Rattle.smol_config.specs.Boundaries.{bounds_at}
 use Rattle.smol_config.specs.Mol.{placings_of}
 use Rattle.smol_config.specs.Reactions.{reactions_said}
-use Rattle.smol_config.specs.Cmd.{commands_of}
+use Rattle.smol_config.specs.Blocks.{blocks_said, compartment_count}
+use Rattle.smol_config.specs.Commands.{commands_of, outputs_of}
 use Rattle.smol_config.specs.SoFar.{IsSoFar}
 
--- with more species each number is one of them still
-AreSpecies-more : (least n m : ℕ) (who : List ℕ) → n ≤ m → AreSpecies least n who → AreSpecies least m who
-AreSpecies-more least n m [] more h = tt
-AreSpecies-more least n m (species ∷ who) more h = let below = h.1 in (h.0, omega arith, AreSpecies-more (species + 1) n m who more h.2)
+-- with more species and compartments each number is one of them still
+IsPlacing-more : (n m compartments more_compartments : ℕ) (around : List Wall) → n ≤ m → compartments ≤ more_compartments → (one : Placing) → IsPlacing n compartments around one → IsPlacing m more_compartments around one
+IsPlacing-more n m compartments more_compartments around more further (placing.Mol count species at) h = let below = h.1 in (h.0, omega arith, h.2, h.3)
+IsPlacing-more n m compartments more_compartments around more further (placing.InCompartment line count species compartment) h =
+    let below = h.1 in let within = h.2 in (h.0, omega arith, omega arith)
 
-IsTest-more : (n m : ℕ) → n ≤ m → (one : Test) → IsTest n one → IsTest m one
-IsTest-more n m more (test.IfNo who) h = AreSpecies-more 0 n m who more h
-IsTest-more n m more (test.IfLess who count) h = (AreSpecies-more 0 n m who more h.0, h.1)
-IsTest-more n m more (test.IfMore who count) h = (AreSpecies-more 0 n m who more h.0, h.1)
+commands_more : (species compartments outputs more_species more_compartments more_outputs : ℕ) (around : List Wall) → species ≤ more_species → compartments ≤ more_compartments → outputs ≤ more_outputs → (all : List Command) → All (IsCommand species compartments outputs around) all → All (IsCommand more_species more_compartments more_outputs around) all
+commands_more species compartments outputs more_species more_compartments more_outputs around a b c all h =
+    All-weaker (IsCommand species compartments outputs around) (IsCommand more_species more_compartments more_outputs around)
+    (λ one sound. commands_stay_sound species compartments outputs more_species more_compartments more_outputs around one sound a b c) all h
 
-IsAct-more : (n m compartments outputs : ℕ) (around : List Wall) (one : Act) → n ≤ m → IsAct n compartments outputs around one → IsAct m compartments outputs around one
-IsAct-more n m compartments outputs around (act.CountHeader out) more h = h
-IsAct-more n m compartments outputs around (act.Count out) more h = h
-IsAct-more n m compartments outputs around (act.CountIn compartment out) more h = h
-IsAct-more n m compartments outputs around (act.List out) more h = h
-IsAct-more n m compartments outputs around (act.Positions who out) more h = (AreSpecies-more 0 n m who more h.0, h.1)
-IsAct-more n m compartments outputs around (act.Echo out text) more h = h
-IsAct-more n m compartments outputs around (act.Kill who) more h = AreSpecies-more 0 n m who more h
-IsAct-more n m compartments outputs around (act.KillProb who p) more h = (AreSpecies-more 0 n m who more h.0, h.1)
-IsAct-more n m compartments outputs around (act.Replace who to p) more h = let below = h.1 in (AreSpecies-more 0 n m who more h.0, omega arith, h.2)
-IsAct-more n m compartments outputs around (act.PointSource species count place) more h = let below = h.0 in (omega arith, h.1, h.2, h.3)
-IsAct-more n m compartments outputs around act.Stop more h = h
+-- a line on blocks more leaves no fewer compartments
+compartments_grow : (said : BlockSaid) (before : List BlockSaid) → length (compartments_of before) ≤ length (compartments_of (said ∷ before))
+compartments_grow (opens_surface opened name) before = omega arith
+compartments_grow (of_surface said) before = omega arith
+compartments_grow (closes_surface surface panels) before = omega arith
+compartments_grow (opens_compartment opened name) before = omega arith
+compartments_grow (of_compartment said) before = omega arith
+compartments_grow (closes_compartment compartment) before =
+    let count = length-append (compartments_of before) (compartment ∷ []) in omega arith
 
-IsCommand-more : (n m compartments outputs : ℕ) (around : List Wall) → n ≤ m → (command : Command) → IsCommand n compartments outputs around command → IsCommand m compartments outputs around command
-IsCommand-more n m compartments outputs around more command h = record {
-  timing = h.timing;
-  test_count = h.test_count;
-  tests = All-weaker (IsTest n) (IsTest m) (IsTest-more n m more) command.tests h.tests;
-  does = IsAct-more n m compartments outputs around command.act more h.does;
-}
-
-IsPlacing-more : (n m compartments : ℕ) (around : List Wall) → n ≤ m → (one : Placing) → IsPlacing n compartments around one → IsPlacing m compartments around one
-IsPlacing-more n m compartments around more (placing.Mol count species at) h = let below = h.1 in (h.0, omega arith, h.2, h.3)
-IsPlacing-more n m compartments around more (placing.InCompartment line count species compartment) h = let below = h.1 in (h.0, omega arith, h.2)
+-- before the number of axes is given nothing is said of blocks
+first_axes : (dims : ℕ) (said : List BlockSaid) → 1 ≤ dims → dims ≤ 3 → said ≡ [] → AreBlocksOf dims said
+first_axes dims said least most none = subst (AreBlocksOf dims) (sym none) (nothing_sound dims)
+  where
+    nothing_sound : (dims : ℕ) → AreBlocksOf dims []
+    nothing_sound dims = record {
+      surface_count = omega arith;
+      compartment_count = omega arith;
+      panel_count = omega arith;
+      panels = λ k d within. absurd (omega arith);
+      compartments = λ k d within. absurd (omega arith);
+      block = (refl, refl);
+    }
 
 -- without axes there are no walls
 unbounded : (axis : ℕ) (dims : Option ℕ) (bounds : Option Bounds) (P : Bounds → Type 0) → dims ≡ None → IfSome bounds (IsBounded dims axis) → IfSome bounds P
@@ -94,6 +94,8 @@ passed_over_kept before h = record {
   settled = h.settled;
   placings = h.placings;
   reactions = h.reactions;
+  blocks = h.blocks;
+  outputs = h.outputs;
   command_count = h.command_count;
   commands = h.commands;
 }
@@ -115,6 +117,8 @@ axes_kept before dims new least most h = record {
   settled = λ some. absurd (unsettled (axes_of before) new (h.settled some));
   placings = h.placings;
   reactions = dims_keep (Some dims) (length (species_of before)) (reactions_said before) (subst (λ (given : Option ℕ). AreReactions given (length (species_of before)) (reactions_said before)) new h.reactions);
+  blocks = first_axes dims (blocks_said before) least most (subst (λ (given : Option ℕ). AreBlocks given (blocks_said before)) new h.blocks);
+  outputs = h.outputs;
   command_count = h.command_count;
   commands = h.commands;
 }
@@ -131,10 +135,12 @@ names_kept before more few h =
       step = h.step;
       max_mol = h.max_mol;
       settled = h.settled;
-      placings = All-weaker _ _ (IsPlacing-more (length (species_of before)) (length (species_of before ++ more)) 0 (walls_of (axes_of before)) grown) (placings_of before) h.placings;
+      placings = All-weaker _ _ (IsPlacing-more (length (species_of before)) (length (species_of before ++ more)) (compartment_count before) (compartment_count before) (walls_of (axes_of before)) grown (omega arith)) (placings_of before) h.placings;
       reactions = species_keep (dims_of before) (length (species_of before)) (length (species_of before ++ more)) (reactions_said before) grown h.reactions;
+      blocks = h.blocks;
+      outputs = h.outputs;
       command_count = h.command_count;
-      commands = All-weaker _ _ (IsCommand-more (length (species_of before)) (length (species_of before ++ more)) 0 0 (walls_of (axes_of before)) grown) (commands_of before) h.commands;
+      commands = commands_more (length (species_of before)) (compartment_count before) (length (outputs_of before)) (length (species_of before ++ more)) (compartment_count before) (length (outputs_of before)) (walls_of (axes_of before)) grown (omega arith) (omega arith) (commands_of before) h.commands;
     }
 
 pub moves_kept : (before : List Said) (chosen : Chosen) (motion : Motion) → IsSoFar before → IsSoFar (moves chosen motion ∷ before)
@@ -148,6 +154,8 @@ moves_kept before chosen motion h = record {
   settled = h.settled;
   placings = h.placings;
   reactions = h.reactions;
+  blocks = h.blocks;
+  outputs = h.outputs;
   command_count = h.command_count;
   commands = h.commands;
 }
@@ -163,6 +171,8 @@ starts_kept before time small h = record {
   settled = h.settled;
   placings = h.placings;
   reactions = h.reactions;
+  blocks = h.blocks;
+  outputs = h.outputs;
   command_count = h.command_count;
   commands = h.commands;
 }
@@ -178,6 +188,8 @@ stops_kept before time small h = record {
   settled = h.settled;
   placings = h.placings;
   reactions = h.reactions;
+  blocks = h.blocks;
+  outputs = h.outputs;
   command_count = h.command_count;
   commands = h.commands;
 }
@@ -193,6 +205,8 @@ steps_kept before time small above h = record {
   settled = h.settled;
   placings = h.placings;
   reactions = h.reactions;
+  blocks = h.blocks;
+  outputs = h.outputs;
   command_count = h.command_count;
   commands = h.commands;
 }
@@ -208,6 +222,8 @@ limits_kept before count least most h = record {
   settled = h.settled;
   placings = h.placings;
   reactions = h.reactions;
+  blocks = h.blocks;
+  outputs = h.outputs;
   command_count = h.command_count;
   commands = h.commands;
 }
@@ -223,6 +239,8 @@ seeds_kept before seed h = record {
   settled = h.settled;
   placings = h.placings;
   reactions = h.reactions;
+  blocks = h.blocks;
+  outputs = h.outputs;
   command_count = h.command_count;
   commands = h.commands;
 }
@@ -238,11 +256,53 @@ of_reactions_kept before said sound h = record {
   settled = h.settled;
   placings = h.placings;
   reactions = sound;
+  blocks = h.blocks;
+  outputs = h.outputs;
   command_count = h.command_count;
   commands = h.commands;
 }
 
-pub places_kept : (before : List Said) (one : Placing) → AreSettled (axes_of before) → IsPlacing (length (species_of before)) 0 (walls_of (axes_of before)) one → IsSoFar before → IsSoFar (places one ∷ before)
+pub of_blocks_kept : (before : List Said) (said : BlockSaid) → AreBlocks (dims_of before) (said ∷ blocks_said before) → IsSoFar before → IsSoFar (of_blocks said ∷ before)
+of_blocks_kept before said sound h =
+    let grown = compartments_grow said (blocks_said before) in
+    let count = length (compartments_of (said ∷ blocks_said before)) in
+    record {
+      axes = h.axes;
+      species = h.species;
+      start = h.start;
+      stop = h.stop;
+      step = h.step;
+      max_mol = h.max_mol;
+      settled = h.settled;
+      placings = All-weaker _ _ (IsPlacing-more (length (species_of before)) (length (species_of before)) (compartment_count before) count (walls_of (axes_of before)) (omega arith) grown) (placings_of before) h.placings;
+      reactions = h.reactions;
+      blocks = sound;
+      outputs = h.outputs;
+      command_count = h.command_count;
+      commands = commands_more (length (species_of before)) (compartment_count before) (length (outputs_of before)) (length (species_of before)) count (length (outputs_of before)) (walls_of (axes_of before)) (omega arith) grown (omega arith) (commands_of before) h.commands;
+    }
+
+pub writes_kept : (before : List Said) (more : List (List ℕ)) → length (outputs_of before ++ more) ≤ 64 → IsSoFar before → IsSoFar (writes more ∷ before)
+writes_kept before more few h =
+    let count = length-append (outputs_of before) more in
+    let grown : length (outputs_of before) ≤ length (outputs_of before ++ more) = omega arith in
+    record {
+      axes = h.axes;
+      species = h.species;
+      start = h.start;
+      stop = h.stop;
+      step = h.step;
+      max_mol = h.max_mol;
+      settled = h.settled;
+      placings = h.placings;
+      reactions = h.reactions;
+      blocks = h.blocks;
+      outputs = few;
+      command_count = h.command_count;
+      commands = commands_more (length (species_of before)) (compartment_count before) (length (outputs_of before)) (length (species_of before)) (compartment_count before) (length (outputs_of before ++ more)) (walls_of (axes_of before)) (omega arith) (omega arith) grown (commands_of before) h.commands;
+    }
+
+pub places_kept : (before : List Said) (one : Placing) → AreSettled (axes_of before) → IsPlacing (length (species_of before)) (compartment_count before) (walls_of (axes_of before)) one → IsSoFar before → IsSoFar (places one ∷ before)
 places_kept before one settled is h = record {
   axes = h.axes;
   species = h.species;
@@ -251,13 +311,15 @@ places_kept before one settled is h = record {
   step = h.step;
   max_mol = h.max_mol;
   settled = λ some. settled;
-  placings = All-push (IsPlacing (length (species_of before)) 0 (walls_of (axes_of before))) (placings_of before) one h.placings is;
+  placings = All-push (IsPlacing (length (species_of before)) (compartment_count before) (walls_of (axes_of before))) (placings_of before) one h.placings is;
   reactions = h.reactions;
+  blocks = h.blocks;
+  outputs = h.outputs;
   command_count = h.command_count;
   commands = h.commands;
 }
 
-pub performs_kept : (before : List Said) (command : Command) → AreSettled (axes_of before) → length (commands_of before) < 256 → IsCommand (length (species_of before)) 0 0 (walls_of (axes_of before)) command → IsSoFar before → IsSoFar (performs command ∷ before)
+pub performs_kept : (before : List Said) (command : Command) → AreSettled (axes_of before) → length (commands_of before) < 256 → IsCommand (length (species_of before)) (compartment_count before) (length (outputs_of before)) (walls_of (axes_of before)) command → IsSoFar before → IsSoFar (performs command ∷ before)
 performs_kept before command settled few is h =
     let count = length-append (commands_of before) (command ∷ []) in
     record {
@@ -270,8 +332,10 @@ performs_kept before command settled few is h =
       settled = λ some. settled;
       placings = h.placings;
       reactions = h.reactions;
+      blocks = h.blocks;
+      outputs = h.outputs;
       command_count = omega arith;
-      commands = All-push (IsCommand (length (species_of before)) 0 0 (walls_of (axes_of before))) (commands_of before) command h.commands is;
+      commands = All-push (IsCommand (length (species_of before)) (compartment_count before) (length (outputs_of before)) (walls_of (axes_of before))) (commands_of before) command h.commands is;
     }
 
 missing_wall : (dims axis : ℕ) (bounds : Option Bounds) → axis < dims → bounds ≡ None → is_walled dims axis bounds ≡ true → ⊥
@@ -320,8 +384,10 @@ walls_kept before dims axis bounds given used within none is h =
       step = h.step;
       max_mol = h.max_mol;
       settled = λ some. absurd (free some);
-      placings = all_of_none (IsPlacing (length (species_of before)) 0 around) (placings_of before) (λ some. free (omega arith));
+      placings = all_of_none (IsPlacing (length (species_of before)) (compartment_count before) around) (placings_of before) (λ some. free (omega arith));
       reactions = h.reactions;
+      blocks = h.blocks;
+      outputs = h.outputs;
       command_count = h.command_count;
-      commands = all_of_none (IsCommand (length (species_of before)) 0 0 around) (commands_of before) (λ some. free (omega arith));
+      commands = all_of_none (IsCommand (length (species_of before)) (compartment_count before) (length (outputs_of before)) around) (commands_of before) (λ some. free (omega arith));
     }

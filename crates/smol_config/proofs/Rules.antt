@@ -5,11 +5,7 @@ use Rattle.std.specs.Str.{bytes_eq}
 use Rattle.std.proofs.lemmas.Bool.Decides.{nat_tests, Decides-int_eq}
 use Rattle.std.proofs.lemmas.Int.{ints}
 use Rattle.smol_text.specs.Reading.{Stated, words_of}
-use Rattle.smol_types.specs.declared.command.Act.{Act}
-use Rattle.smol_types.specs.declared.command.Act.TheVariants as act
 use Rattle.smol_types.specs.declared.command.Command.{Command}
-use Rattle.smol_types.specs.declared.command.When.{When}
-use Rattle.smol_types.specs.declared.command.When.TheVariants as «when»
 use Rattle.smol_types.specs.declared.fault.Kind.{Kind}
 use Rattle.smol_types.specs.declared.fault.Kind.TheVariants as kind
 use Rattle.smol_types.specs.declared.placing.Given.{Given}
@@ -18,7 +14,7 @@ use Rattle.smol_types.specs.declared.placing.Placing.{Placing}
 use Rattle.smol_types.specs.declared.placing.Placing.TheVariants as placing
 use Rattle.smol_types.specs.declared.wall.Letter.{Letter}
 use Rattle.smol_types.specs.declared.wall.Wall.{Wall}
-use Rattle.smol_types.specs.Commands.{IsWhen, IsAct}
+use Rattle.smol_types.specs.Commands.{IsCommand}
 use Rattle.smol_types.specs.Walls.{LiesBetween, IsGiven, AreGiven}
 use Rattle.smol_line.specs.declared.axes.Axes.{Axes}
 use Rattle.smol_line.specs.declared.axes.Bounds.{Bounds}
@@ -28,18 +24,23 @@ use Rattle.smol_line.specs.Checks.{unless, once, word_count, passing, with_value
 use Rattle.smol_line.specs.Coordinate.{coordinate_between, inside, ticks_within}
 use Rattle.smol_line.specs.Length.{micros_in}
 use Rattle.smol_line.specs.Numbers.{count_in}
-use Rattle.smol_line.specs.SpeciesWord.{species_word_in}
+use Rattle.smol_line.specs.SpeciesWord.{number_in, species_word_in}
 use Rattle.smol_line.specs.Words.{word_at}
 use Rattle.smol_line.proofs.Passing.{passed, valued, holds, not_yet, is_there}
-use Rattle.smol_line.proofs.Ranges.{count_in-low, count_in-high, decimal_in-within, axis_in-within, species_word_in-within}
+use Rattle.smol_line.proofs.Ranges.{count_in-low, count_in-high, decimal_in-within, axis_in-within, number_in-within, species_word_in-within}
+use Rattle.smol_blocks.specs.declared.block_statement.BlockStatement.{BlockStatement}
+use Rattle.smol_blocks.specs.Blocks.{Block, no_block, in_surface, in_compartment, BlockSaid, block_line_in, block_of, compartment_names, compartments_of, is_outside}
+use Rattle.smol_blocks.specs.BlocksSound.{AreBlocks, IsBlock}
+use Rattle.smol_cmd.specs.Cmd.{cmd_in}
+use Rattle.smol_cmd.specs.OutputFiles.{output_files_in}
+use Rattle.smol_cmd.proofs.OutputNames.{files_are_few}
+use Rattle.smol_cmd.proofs.Sound.{commands_are_few, commands_are_sound}
 use Rattle.smol_reactions.specs.Statements.{binding_radius_said, product_placement_said, reaction_probability_said, reaction_said}
 use Rattle.smol_reactions.proofs.SoundSaid.{binding_radius_keeps, product_placement_keeps, reaction_keeps, reaction_probability_keeps}
-use Rattle.smol_config.specs.declared.cmd.act.Verb.{Verb}
-use Rattle.smol_config.specs.declared.cmd.act.Verb.TheVariants as verb
 use Rattle.smol_config.specs.declared.statement.Statement.{Statement}
 use Rattle.smol_config.specs.declared.statement.Statement.TheVariants as statement
-use Rattle.smol_config.specs.Said.{Said, passed_over, axes, names, moves, starts, stops, steps, limits, seeds, walls, places, of_reactions, performs, say}
-use Rattle.smol_config.specs.Statement.{statement_of}
+use Rattle.smol_config.specs.Said.{Said, passed_over, axes, names, moves, starts, stops, steps, limits, seeds, walls, places, of_reactions, of_blocks, writes, performs, say}
+use Rattle.smol_config.specs.Statement.{may_stand, statement_of}
 use Rattle.smol_config.specs.Axes.{axes_of, dims_of}
 use Rattle.smol_config.specs.Dim.{dim_in}
 use Rattle.smol_config.specs.Species.{species_of, names_fault, further_words, species_in}
@@ -50,12 +51,12 @@ use Rattle.smol_config.specs.RandomSeed.{random_seed_in}
 use Rattle.smol_config.specs.Boundaries.{line_letter, bounds_at, bounds_in, boundaries_in}
 use Rattle.smol_config.specs.Mol.{given_in, place_in, mol_in}
 use Rattle.smol_config.specs.Reactions.{reactions_said}
-use Rattle.smol_config.specs.Cmd.{commands_of, cmd_in}
-use Rattle.smol_config.specs.Cmd.When.{when_in}
-use Rattle.smol_config.specs.Cmd.Act.{verb_in, outlet_in, verb_act, act_in}
+use Rattle.smol_config.specs.Blocks.{blocks_said, stands_outside}
+use Rattle.smol_config.specs.CompartmentMol.{compartment_mol_in}
+use Rattle.smol_config.specs.Commands.{commands_of, known_of, outputs_of}
 use Rattle.smol_config.specs.Reader.{statement_in, line_in}
 use Rattle.smol_config.specs.SoFar.{IsSoFar}
-use Rattle.smol_config.proofs.Kept.{passed_over_kept, axes_kept, names_kept, moves_kept, starts_kept, stops_kept, steps_kept, limits_kept, seeds_kept, walls_kept, places_kept, of_reactions_kept, performs_kept, three}
+use Rattle.smol_config.proofs.Kept.{passed_over_kept, axes_kept, names_kept, moves_kept, starts_kept, stops_kept, steps_kept, limits_kept, seeds_kept, walls_kept, places_kept, of_reactions_kept, of_blocks_kept, writes_kept, performs_kept, three}
 
 -- what is said is said by a value
 said_by : {T : Type 0} (wrap : T → Said) (rule : Result T Kind) (said : Said) → say wrap rule ≡ Ok said → (value : T) × (rule ≡ Ok value) × (wrap value ≡ said)
@@ -306,113 +307,105 @@ mol_keeps before line one is h =
     (places_kept before made (is_settled (axes_of before) dims.0 dims.1)
     (count_in-high 0 1000000 (word_at line 1) n.0 n.1, species_word_in-within (species_of before) (word_at line 2) species.0 species.1, lie.0, lie.1) h)
 
-when_is : (word : List ℕ) (due : When) → when_in word ≡ Ok due → IsWhen due
-unfolding when_in
-when_is word due is = by (bytes_eq word (codes "b")) (bytes_eq word (codes "a")) due is
+-- where no block is open, each compartment that is named is there
+compartments_closed : (dims : Option ℕ) (said : List BlockSaid) → AreBlocks dims said → is_outside (block_of said) ≡ true → length (compartment_names said) ≡ length (compartments_of said)
+compartments_closed None said none outside = ap (λ (said : List BlockSaid). length (compartment_names said)) none ∙ sym (ap (λ (said : List BlockSaid). length (compartments_of said)) none)
+compartments_closed (Some dims) said sound outside = by (block_of said) sound.block outside
   where
-    by : (b a : Bool) (due : When) → (if b then Ok «when».Before else (if a then Ok «when».After else Err kind.BadTiming)) ≡ Ok due → IsWhen due
-    by true a due is = let same : «when».Before ≡ due = cc in subst IsWhen same tt
-    by false true due is = let same : «when».After ≡ due = cc in subst IsWhen same tt
-    by false false due is = absurd cc
+    by : (block : Block) → IsBlock dims said block → is_outside block ≡ true → length (compartment_names said) ≡ length (compartments_of said)
+    by no_block is outside = is.1
+    by (in_surface opened lines) is outside = absurd cc
+    by (in_compartment opened lines) is outside = absurd cc
 
-outlet_is : (word : List ℕ) (out : ℕ) → outlet_in word ≡ Ok out → out < 2 + 0
-outlet_is word out is = by (bytes_eq word (codes "stdout")) out is
-  where
-    by : (test : Bool) (out : ℕ) → (if test then Ok 0 else Err kind.UnknownOutlet) ≡ Ok out → out < 2 + 0
-    by true out is = let same : 0 ≡ out = cc in omega arith
-    by false out is = absurd cc
+compartment_mol_keeps : (before : List Said) (line : Stated) (one : Placing) → compartment_mol_in (axes_of before) (species_of before) (compartment_names (blocks_said before)) line ≡ Ok one → stands_outside before ≡ true → IsSoFar before → IsSoFar (places one ∷ before)
+unfolding compartment_mol_in
+compartment_mol_keeps before line one is outside h =
+    let last = λ (n species compartment : ℕ). let all : Result Placing Kind = Ok (placing.InCompartment line.number n species compartment) in all in
+    let inside = λ (n species : ℕ). with_value (number_in (compartment_names (blocks_said before)) (word_at line 3)) (last n species) in
+    let counted = λ (n : ℕ). with_value (species_word_in (species_of before) (word_at line 2)) (inside n) in
+    let dims = valued (needs_walls (axes_of before)) (λ dims. passing (word_count 4 line ∷ []) (with_value (count_in 0 1000000 (word_at line 1)) counted)) one is in
+    let words = passed (word_count 4 line) [] (with_value (count_in 0 1000000 (word_at line 1)) counted) one dims.2 in
+    let n = valued (count_in 0 1000000 (word_at line 1)) counted one words.1 in
+    let species = valued (species_word_in (species_of before) (word_at line 2)) (inside n.0) one n.2 in
+    let compartment = valued (number_in (compartment_names (blocks_said before)) (word_at line 3)) (last n.0 species.0) one species.2 in
+    let named = number_in-within (compartment_names (blocks_said before)) (word_at line 3) compartment.0 compartment.1 in
+    let closed = compartments_closed (dims_of before) (blocks_said before) h.blocks outside in
+    let made : Placing = placing.InCompartment line.number n.0 species.0 compartment.0 in
+    let same : made ≡ one = cc in
+    subst (λ (one : Placing). IsSoFar (places one ∷ before)) same
+    (places_kept before made (is_settled (axes_of before) dims.0 dims.1)
+    (count_in-high 0 1000000 (word_at line 1) n.0 n.1, species_word_in-within (species_of before) (word_at line 2) species.0 species.1, omega arith) h)
 
-act_is : (species : ℕ) (around : List Wall) (line : Stated) (at : ℕ) (act : Act) → act_in line at ≡ Ok act → IsAct species 0 0 around act
-unfolding act_in
-act_is species around line at one is =
-    let found = valued (verb_in (word_at line at)) (λ verb. verb_act verb line at) one is in
-    by found.0 found.2
-  where
-    by : (verb : Verb) → verb_act verb line at ≡ Ok one → IsAct species 0 0 around one
-    by verb.MolCount is =
-        let value = with_value (outlet_in (word_at line (at + 1))) (λ out. let done : Result Act Kind = Ok (act.Count out) in done) in
-        let words = passed (word_count (at + 2) line) [] value one is in
-        let out = valued (outlet_in (word_at line (at + 1))) (λ out. let done : Result Act Kind = Ok (act.Count out) in done) one words.1 in
-        let same : act.Count out.0 ≡ one = cc in
-        subst (IsAct species 0 0 around) same (outlet_is (word_at line (at + 1)) out.0 out.1)
-    by verb.ListMols is =
-        let value = with_value (outlet_in (word_at line (at + 1))) (λ out. let done : Result Act Kind = Ok (act.List out) in done) in
-        let words = passed (word_count (at + 2) line) [] value one is in
-        let out = valued (outlet_in (word_at line (at + 1))) (λ out. let done : Result Act Kind = Ok (act.List out) in done) one words.1 in
-        let same : act.List out.0 ≡ one = cc in
-        subst (IsAct species 0 0 around) same (outlet_is (word_at line (at + 1)) out.0 out.1)
+-- what is said of blocks stays sound
+blocks_keep : (one : BlockStatement) (before : List Said) (line : Stated) (said : BlockSaid) → block_line_in one (axes_of before) (species_of before) (blocks_said before) line ≡ Ok said → IsSoFar before → IsSoFar (of_blocks said ∷ before)
+blocks_keep one before line said is h = of_blocks_kept before said ? h
 
-cmd_keeps : (before : List Said) (line : Stated) (command : Command) → cmd_in (axes_of before) (length (commands_of before)) line ≡ Ok command → IsSoFar before → IsSoFar (performs command ∷ before)
+cmd_keeps : (before : List Said) (line : Stated) (command : Command) → cmd_in (known_of before) (length (commands_of before)) line ≡ Ok command → stands_outside before ≡ true → IsSoFar before → IsSoFar (performs command ∷ before)
 unfolding cmd_in
-cmd_keeps before line command is h =
-    let few = unless (nat_lt (length (commands_of before)) 256) kind.TooMany in
-    let made = λ (due : When) (act : Act). let one : Command = record { «when» = due; tests = []; act = act } in one in
-    let last = λ (due : When) (act : Act). passing {T = Command} (few ∷ []) (Ok (made due act)) in
-    let three_words = unless (nat_le 3 (length (words_of line))) kind.WrongWordCount in
-    let two_words = unless (nat_le 2 (length (words_of line))) kind.WrongWordCount in
-    let timed = λ (due : When). passing {T = Command} (three_words ∷ []) (with_value (act_in line 2) (last due)) in
-    let dims = valued (needs_walls (axes_of before)) (λ dims. passing (two_words ∷ []) (with_value (when_in (word_at line 1)) timed)) command is in
-    let two = passed two_words [] (with_value (when_in (word_at line 1)) timed) command dims.2 in
-    let due = valued (when_in (word_at line 1)) timed command two.1 in
-    let more = passed three_words [] (with_value (act_in line 2) (last due.0)) command due.2 in
-    let act = valued (act_in line 2) (last due.0) command more.1 in
-    let all : Result Command Kind = Ok (made due.0 act.0) in
-    let room = passed few [] all command act.2 in
-    let test = holds (nat_lt (length (commands_of before)) 256) kind.TooMany room.0 in
-    let fits : length (commands_of before) < 256 = grind (arith, nat_tests) in
-    let same : made due.0 act.0 ≡ command = cc in
-    subst (λ (one : Command). IsSoFar (performs one ∷ before)) same
-    (performs_kept before (made due.0 act.0) (is_settled (axes_of before) dims.0 dims.1) fits (record {
-      timing = when_is (word_at line 1) due.0 due.1;
-      test_count = omega arith;
-      tests = λ k d within. absurd (omega arith);
-      does = act_is (length (species_of before)) (walls_of (axes_of before)) line 2 act.0 act.1;
-    }) h)
+cmd_keeps before line command is outside h =
+    let dims = valued (needs_walls (axes_of before)) _ command is in
+    let sound = commands_are_sound (known_of before) (length (commands_of before)) line command is h.axes in
+    let closed = compartments_closed (dims_of before) (blocks_said before) h.blocks outside in
+    performs_kept before command (is_settled (axes_of before) dims.0 dims.1)
+    (commands_are_few (known_of before) (length (commands_of before)) line command is)
+    (subst (λ (count : ℕ). IsCommand (length (species_of before)) count (length (outputs_of before)) (walls_of (axes_of before)) command) closed sound) h
 
 -- a line that makes a statement keeps what holds so far
-statement_keeps : (statement : Statement) (before : List Said) (line : Stated) (said : Said) → statement_in statement before line ≡ Ok said → IsSoFar before → IsSoFar (said ∷ before)
+statement_keeps : (statement : Statement) (before : List Said) (line : Stated) (said : Said) → may_stand statement (stands_outside before) ≡ true → statement_in statement before line ≡ Ok said → IsSoFar before → IsSoFar (said ∷ before)
 unfolding statement_in
-statement_keeps statement.PassedOver before line said is h =
+statement_keeps statement.PassedOver before line said place is h =
     let same : passed_over ≡ said = cc in subst (λ (s : Said). IsSoFar (s ∷ before)) same (passed_over_kept before h)
-statement_keeps statement.NotInProfile before line said is h = absurd cc
-statement_keeps statement.Unknown before line said is h = absurd cc
-statement_keeps statement.Dim before line said is h =
+statement_keeps statement.NotInProfile before line said place is h = absurd cc
+statement_keeps statement.Unknown before line said place is h = absurd cc
+statement_keeps statement.Dim before line said place is h =
     let by = said_by axes (dim_in (axes_of before) line) said is in subst (λ (s : Said). IsSoFar (s ∷ before)) by.2 (dim_keeps before line by.0 by.1 h)
-statement_keeps statement.Species before line said is h =
+statement_keeps statement.Species before line said place is h =
     let by = said_by names (species_in before line) said is in subst (λ (s : Said). IsSoFar (s ∷ before)) by.2 (species_keeps before line by.0 by.1 h)
-statement_keeps statement.Difc before line said is h =
+statement_keeps statement.Difc before line said place is h =
     let by = said_by (λ given. moves given.0 given.1) (difc_in before line) said is in subst (λ (s : Said). IsSoFar (s ∷ before)) by.2 (moves_kept before by.0.0 by.0.1 h)
-statement_keeps statement.Difstep before line said is h =
+statement_keeps statement.Difstep before line said place is h =
     let by = said_by (λ given. moves given.0 given.1) (difstep_in before line) said is in subst (λ (s : Said). IsSoFar (s ∷ before)) by.2 (moves_kept before by.0.0 by.0.1 h)
-statement_keeps statement.TimeStart before line said is h =
+statement_keeps statement.TimeStart before line said place is h =
     let by = said_by starts (time_in (start_of before) line) said is in subst (λ (s : Said). IsSoFar (s ∷ before)) by.2 (starts_kept before by.0 (time_small (start_of before) line by.0 by.1) h)
-statement_keeps statement.TimeStop before line said is h =
+statement_keeps statement.TimeStop before line said place is h =
     let by = said_by stops (time_in (stop_of before) line) said is in subst (λ (s : Said). IsSoFar (s ∷ before)) by.2 (stops_kept before by.0 (time_small (stop_of before) line by.0 by.1) h)
-statement_keeps statement.TimeStep before line said is h =
+statement_keeps statement.TimeStep before line said place is h =
     let by = said_by steps (time_step_in before line) said is in subst (λ (s : Said). IsSoFar (s ∷ before)) by.2 (time_step_keeps before line by.0 by.1 h)
-statement_keeps statement.MaxMol before line said is h =
+statement_keeps statement.MaxMol before line said place is h =
     let by = said_by limits (max_mol_in before line) said is in subst (λ (s : Said). IsSoFar (s ∷ before)) by.2 (max_mol_keeps before line by.0 by.1 h)
-statement_keeps statement.RandomSeed before line said is h =
+statement_keeps statement.RandomSeed before line said place is h =
     let by = said_by seeds (random_seed_in before line) said is in subst (λ (s : Said). IsSoFar (s ∷ before)) by.2 (seeds_kept before by.0 h)
-statement_keeps statement.Boundaries before line said is h =
+statement_keeps statement.Boundaries before line said place is h =
     let by = said_by (λ given. walls given.0 given.1) (boundaries_in (axes_of before) line) said is in subst (λ (s : Said). IsSoFar (s ∷ before)) by.2 (boundaries_keep before line by.0 by.1 h)
-statement_keeps statement.Mol before line said is h =
+statement_keeps statement.Mol before line said place is h =
     let by = said_by places (mol_in (axes_of before) (species_of before) line) said is in subst (λ (s : Said). IsSoFar (s ∷ before)) by.2 (mol_keeps before line by.0 by.1 h)
-statement_keeps statement.Reaction before line said is h =
+statement_keeps statement.CompartmentMol before line said place is h =
+    let by = said_by places (compartment_mol_in (axes_of before) (species_of before) (compartment_names (blocks_said before)) line) said is in
+    subst (λ (s : Said). IsSoFar (s ∷ before)) by.2 (compartment_mol_keeps before line by.0 by.1 place h)
+statement_keeps statement.Reaction before line said place is h =
     let by = said_by of_reactions (reaction_said (species_of before) (reactions_said before) line) said is in
     subst (λ (s : Said). IsSoFar (s ∷ before)) by.2 (of_reactions_kept before by.0 (reaction_keeps (dims_of before) (species_of before) (reactions_said before) line by.0 by.1 h.reactions) h)
-statement_keeps statement.BindingRadius before line said is h =
+statement_keeps statement.BindingRadius before line said place is h =
     let by = said_by of_reactions (binding_radius_said (reactions_said before) line) said is in
     subst (λ (s : Said). IsSoFar (s ∷ before)) by.2 (of_reactions_kept before by.0 (binding_radius_keeps (dims_of before) (length (species_of before)) (reactions_said before) line by.0 by.1 h.reactions) h)
-statement_keeps statement.ReactionProbability before line said is h =
+statement_keeps statement.ReactionProbability before line said place is h =
     let by = said_by of_reactions (reaction_probability_said (reactions_said before) line) said is in
     subst (λ (s : Said). IsSoFar (s ∷ before)) by.2 (of_reactions_kept before by.0 (reaction_probability_keeps (dims_of before) (length (species_of before)) (reactions_said before) line by.0 by.1 h.reactions) h)
-statement_keeps statement.ProductPlacement before line said is h =
+statement_keeps statement.ProductPlacement before line said place is h =
     let by = said_by of_reactions (product_placement_said (dims_of before) (species_of before) (reactions_said before) line) said is in
     subst (λ (s : Said). IsSoFar (s ∷ before)) by.2 (of_reactions_kept before by.0 (product_placement_keeps (dims_of before) (length (species_of before)) (species_of before) (reactions_said before) line by.0 by.1 h.reactions) h)
-statement_keeps statement.Cmd before line said is h =
-    let by = said_by performs (cmd_in (axes_of before) (length (commands_of before)) line) said is in subst (λ (s : Said). IsSoFar (s ∷ before)) by.2 (cmd_keeps before line by.0 by.1 h)
+statement_keeps (statement.Block one) before line said place is h =
+    let by = said_by of_blocks (block_line_in one (axes_of before) (species_of before) (blocks_said before) line) said is in
+    subst (λ (s : Said). IsSoFar (s ∷ before)) by.2 (blocks_keep one before line by.0 by.1 h)
+statement_keeps statement.OutputFiles before line said place is h =
+    let by = said_by writes (output_files_in (outputs_of before) line) said is in
+    subst (λ (s : Said). IsSoFar (s ∷ before)) by.2 (writes_kept before by.0 (files_are_few (outputs_of before) line by.0 by.1) h)
+statement_keeps statement.Cmd before line said place is h =
+    let by = said_by performs (cmd_in (known_of before) (length (commands_of before)) line) said is in subst (λ (s : Said). IsSoFar (s ∷ before)) by.2 (cmd_keeps before line by.0 by.1 place h)
 
 pub line_keeps : (before : List Said) (line : Stated) (said : Said) → line_in before line ≡ Ok said → IsSoFar before → IsSoFar (said ∷ before)
 unfolding line_in
-line_keeps before line said is h = statement_keeps (statement_of (word_at line 0)) before line said is h
+line_keeps before line said is h =
+    let statement = statement_of (word_at line 0) in
+    let place = passed (unless (may_stand statement (stands_outside before)) kind.BadOrder) [] (statement_in statement before line) said is in
+    statement_keeps statement before line said (holds (may_stand statement (stands_outside before)) kind.BadOrder place.0) place.1 h

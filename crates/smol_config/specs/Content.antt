@@ -3,6 +3,7 @@ use Rattle.std.specs.Prelude.{ℕ, ◌+◌, ℤ, ◌*ℤ◌, pos, false, true, L
 use Rattle.smol_types.specs.declared.draft.Draft.{Draft}
 use Rattle.smol_types.specs.declared.species.Species.{Species as TheSpecies}
 use Rattle.smol_line.specs.Axes.{walls_of}
+use Rattle.smol_blocks.specs.Blocks.{compartments_of, panels_of, surfaces_of}
 use Rattle.smol_reactions.specs.Content.{reactions_of}
 use Rattle.smol_config.specs.declared.whole.Needed.{Needed}
 use Rattle.smol_config.specs.Said.{Said}
@@ -14,7 +15,8 @@ use Rattle.smol_config.specs.MaxMol.{max_mol_of, limit_of}
 use Rattle.smol_config.specs.RandomSeed.{seed_of}
 use Rattle.smol_config.specs.Mol.{placings_of}
 use Rattle.smol_config.specs.Reactions.{reactions_said}
-use Rattle.smol_config.specs.Cmd.{commands_of}
+use Rattle.smol_config.specs.Blocks.{blocks_said}
+use Rattle.smol_config.specs.Commands.{commands_of, outputs_of}
 
 -- species of these names, from this number on, each with its difstep where a step takes this time
 abbrev pub species_from : ℤ → List Said → ℕ → List (List ℕ) → List TheSpecies
@@ -32,13 +34,13 @@ content_of needed before = record {
   dims = needed.dims;
   species = species_from needed.step before 0 (species_of before);
   walls = walls_of (axes_of before);
-  surfaces = [];
-  panels = [];
-  compartments = [];
+  surfaces = surfaces_of (blocks_said before);
+  panels = panels_of (blocks_said before);
+  compartments = compartments_of (blocks_said before);
   reactions = reactions_of (reactions_said before);
   placings = placings_of before;
   commands = commands_of before;
-  outputs = [];
+  outputs = outputs_of before;
   start = started (start_of before);
   stop = needed.stop;
   step = needed.step;

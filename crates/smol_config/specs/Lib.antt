@@ -9,8 +9,10 @@ pub mod MaxMol
 pub mod RandomSeed
 pub mod Boundaries
 pub mod Mol
-pub mod Cmd
 pub mod Reactions
+pub mod Blocks
+pub mod CompartmentMol
+pub mod Commands
 pub mod Content
 pub mod Whole
 pub mod Reader

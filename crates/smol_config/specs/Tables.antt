@@ -1,15 +1,19 @@
 -- What the reader keeps of the lines read so far. This is no part of what a text means.
-use Rattle.std.specs.Prelude.{◌≡◌, ◌≤◌, ◌+◌, ◌==◌, ℕ, ℤ, unsigned_abs, List, [], ◌∷◌, length, Some, Result, Ok, Err, slice_index_or, if◌then◌else◌}
+use Rattle.std.specs.Prelude.{◌≡◌, ◌≤◌, ◌+◌, ◌==◌, ℕ, ℤ, unsigned_abs, true, List, [], ◌∷◌, length, Some, Result, Ok, Err, slice_index_or, if◌then◌else◌}
 use Rattle.smol_text.specs.Reading.{Stated}
 use Rattle.smol_types.specs.declared.fault.Kind.{Kind}
+use Rattle.smol_types.specs.Limits.{most_outputs, most_species}
 use Rattle.smol_types.specs.declared.species.Species.{Species as TheSpecies}
 use Rattle.smol_line.specs.declared.axes.Axes.{Axes}
 use Rattle.smol_line.specs.declared.axes.Bounds.{Bounds}
+use Rattle.smol_line.specs.Axes.{AreAxes}
 use Rattle.smol_line.specs.Length.{most_micros}
 use Rattle.smol_line.specs.declared.refusal.Refusal.{Refusal}
 use Rattle.smol_line.specs.declared.refusal.Refusal.TheVariants.{At, OutOfMemory}
+use Rattle.smol_blocks.specs.BlocksTable.{Holds as HoldsBlocks, IsKept as AreBlocksKept}
 use Rattle.smol_reactions.specs.Table.{Holds as HoldsReactions, IsKept}
 use Rattle.smol_config.specs.declared.motion.Motion.{Motion}
+use Rattle.smol_config.specs.declared.statement.Statement.{Statement}
 use Rattle.smol_config.specs.declared.tables.Tables.{Tables}
 use Rattle.smol_config.specs.Said.{Said}
 use Rattle.smol_config.specs.Axes.{axes_of}
@@ -20,7 +24,9 @@ use Rattle.smol_config.specs.MaxMol.{max_mol_of}
 use Rattle.smol_config.specs.RandomSeed.{seed_of}
 use Rattle.smol_config.specs.Mol.{placings_of}
 use Rattle.smol_config.specs.Reactions.{reactions_said}
-use Rattle.smol_config.specs.Cmd.{commands_of}
+use Rattle.smol_config.specs.Blocks.{blocks_said, stands_outside}
+use Rattle.smol_config.specs.Commands.{commands_of, outputs_of}
+use Rattle.smol_config.specs.Statement.{may_stand}
 use Rattle.smol_config.specs.SoFar.{IsSoFar}
 
 -- each table is its look-up over what the lines so far say
@@ -36,6 +42,9 @@ pub record Holds (tables : Tables) (before : List Said) : Type 0 where
   pub placings : tables.placings ≡ placings_of before
   pub reactions : HoldsReactions tables.reactions (reactions_said before)
   pub kept : IsKept tables.reactions
+  pub blocks : HoldsBlocks tables.blocks (blocks_said before)
+  pub blocks_kept : AreBlocksKept (length tables.species.names) tables.blocks
+  pub outputs : tables.outputs ≡ outputs_of before
   pub commands : tables.commands ≡ commands_of before
 
 -- how the reading of a line ends: it is taken and the tables hold what it says too, or its fault is told, or memory ran out
@@ -44,6 +53,22 @@ Reads rule line old new (Ok done) =
     (before : List Said) → Holds old before → (said : Said) × (rule before line ≡ Ok said) × Holds new (said ∷ before)
 Reads rule line old new (Err (At kind)) = (before : List Said) → Holds old before → rule before line ≡ Err kind
 Reads rule line old new (Err OutOfMemory) = Unit {0}
+
+-- the parts of the tables fit each other, and no more is in them than there may be
+pub record AreReady (tables : Tables) : Type 0 where
+  pub axes : AreAxes tables.axes
+  pub species : length tables.species.names ≤ most_species
+  pub reactions : IsKept tables.reactions
+  pub blocks : AreBlocksKept (length tables.species.names) tables.blocks
+  pub outputs : length tables.outputs ≤ most_outputs
+
+-- no block is open, by what the tables hold
+abbrev pub IsOutside : Tables → Type 0
+IsOutside tables = (before : List Said) → Holds tables before → stands_outside before ≡ true
+
+-- a statement may stand where it does, by what the tables hold
+abbrev pub IsInPlace : Statement → Tables → Type 0
+IsInPlace statement tables = (before : List Said) → Holds tables before → may_stand statement (stands_outside before) ≡ true
 
 -- the tables hold what lines without a fault say
 abbrev pub IsReached : Tables → Type 0

@@ -2,7 +2,7 @@
 #![tactic(auto)]
 
 mod boundaries;
-mod cmd;
+mod compartment_mol;
 mod dim;
 mod law;
 mod max_mol;

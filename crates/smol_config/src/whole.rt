@@ -14,12 +14,12 @@ ghost use Rattle.smol_config.specs.Said.{Said};
 ghost use Rattle.smol_config.specs.Motion.{difstep_of};
 ghost use Rattle.smol_config.specs.Content.{content_of};
 ghost use Rattle.smol_config.specs.Tables.{AreSmall, Holds, IsReached, species_made};
-ghost use Rattle.smol_config.specs.Whole.{bounded, has_chances, has_difstep, has_few_steps, needed_in, whole_in};
+ghost use Rattle.smol_config.specs.Whole.{bounded, has_chances, has_difstep, has_few_steps, needed_in, closed_in};
 
 use crate::motion::{MOST_DIFSTEP, Motion, difstep_of};
 use crate::species_table::SpeciesTable;
 use crate::tables::Tables;
-use smol_line::{Axes, Bounds, Refusal, is_walled, unless};
+use smol_line::{Axes, Bounds, NameSet, Refusal, is_walled, unless};
 use smol_types::{Config, Draft, Items, Kind, Name, Need, Placing, Species, Wall, last_step};
 use std::alloc::{AllocError, Global};
 
@@ -127,6 +127,18 @@ fn make_species(alloc: Global, species: &SpeciesTable, time: i64) -> Result<Item
     Ok(made)
 }
 
+// The names of a set in their order.
+fn make_names(alloc: Global, names: &NameSet) -> Result<Items<Name>, AllocError>
+    ensures { IfOk result (λ made. made ≡ names.now) }
+{
+    let mut made = Items::new(alloc);
+    for number in 0..names.len() {
+        let name = Name::from_text(alloc, names.name(number))?;
+        made.push(name)?;
+    }
+    Ok(made)
+}
+
 // How many molecules a statement places.
 fn placed_by(placing: &Placing) -> u32
     ensures { result ≡ placed_by placing.now }
@@ -178,18 +190,19 @@ fn draft_of(alloc: Global, needed: Needed, tables: Tables) -> Result<Draft, Refu
         .are_shared(tables.species.names.len() as u16);
     unless(shared, Kind::ProbabilitySum)?;
     let walls = walls_of(alloc, &tables.axes)?;
+    let outputs = make_names(alloc, &tables.outputs)?;
     let reactions = tables.reactions.into_list();
     Ok(Draft {
         dims: needed.dims,
         species,
         walls,
-        surfaces: Items::new(alloc),
-        panels: Items::new(alloc),
-        compartments: Items::new(alloc),
+        surfaces: tables.blocks.surfaces,
+        panels: tables.blocks.panels,
+        compartments: tables.blocks.compartments,
         reactions,
         placings: tables.placings,
         commands: tables.commands,
-        outputs: Items::new(alloc),
+        outputs,
         start,
         stop: needed.stop,
         step: needed.step,
@@ -212,11 +225,11 @@ fn bounded(draft: Draft) -> Result<Draft, Kind>
     Ok(draft)
 }
 
-/// What the lines read so far make together, where the whole file passes its tests.
+/// What the lines read so far make together, where the whole file passes its tests and no block is open.
 pub fn finish(alloc: Global, tables: Tables) -> Result<Config, Refusal>
     requires { IsReached tables }
-    ensures accepted { IfOk result (λ config. (before : List Said) → Holds tables before → whole_in before ≡ Ok config) }
-    ensures refused { (kind : TheKind) (before : List Said) → result ≡ Err (At kind) → Holds tables before → whole_in before ≡ Err (fault_at 0 kind) }
+    ensures accepted { IfOk result (λ config. (before : List Said) → Holds tables before → closed_in before ≡ Ok config) }
+    ensures refused { (kind : TheKind) (before : List Said) → result ≡ Err (At kind) → Holds tables before → closed_in before ≡ Err (fault_at 0 kind) }
 {
     let needed = needed_in(&tables)?;
     let draft = draft_of(alloc, needed, tables)?;

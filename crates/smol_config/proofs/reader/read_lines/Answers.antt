@@ -26,18 +26,3 @@ returns-in-Err-clause-refused c =
     (refused_line lines (drop c.loop-k.k lines) before c.line-line.result (drop (c.loop-k.k + 1) lines) c.in-Err.refusal c.loop-k.invariant.3 c.line-line.ensures.is_next
     (λ kind is. (rw is at c.in-Err.ensures) before c.loop-k.invariant.1))
 
-pub returns-in-Ok-finish-clause-accepted : goal.returns-in-Ok-finish-clause-accepted
-returns-in-Ok-finish-clause-accepted c =
-    let lines = stated_lines c.args.text.now in
-    let before = c.loop-k.invariant.0 in
-    let ended : length lines ≤ c.loop-k.k = omega arith in
-    config_from-whole lines (drop c.loop-k.k lines) before c.loop-k.invariant.3 (drop_all c.loop-k.k lines ended) ∙ c.in-Ok-finish.ensures.accepted before c.loop-k.invariant.1
-
-pub returns-in-Err-finish-clause-refused : goal.returns-in-Err-finish-clause-refused
-returns-in-Err-finish-clause-refused c =
-    let lines = stated_lines c.args.text.now in
-    let before = c.loop-k.invariant.0 in
-    let ended : length lines ≤ c.loop-k.k = omega arith in
-    let whole = config_from-whole lines (drop c.loop-k.k lines) before c.loop-k.invariant.3 (drop_all c.loop-k.k lines ended) in
-    rw c.told_at-in-Err-finish.ensures
-    (refused_whole c.in-Err-finish.refusal _ (λ kind is. whole ∙ c.in-Err-finish.ensures.refused kind before (ap (λ why. Err why) is) c.loop-k.invariant.1))

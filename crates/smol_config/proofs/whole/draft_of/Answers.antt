@@ -71,5 +71,5 @@ returns-clause-content c before holds =
     let stop = time_kept needed.stop c.requires.stop in
     let start = ap (λ (t : ℤ). to_z w64 (of_z w64 t)) c.unwrap_or-start.ensures ∙ time_kept (unwrap_or tables.start (pos 0)) (start_within tables.start c.requires.start) in
     let species = c.in_ok-species.ensures.made ∙ ap (λ (t : ℤ). species_made t tables.species.motions.items 0 tables.species.names) step in
-    same_draft _ _ refl species c.in_ok-walls.ensures c.new.ensures c.new-2.ensures c.new-3.ensures c.into_list-reactions.ensures refl refl c.new-4.ensures start stop step c.unwrap_or.ensures refl
+    same_draft _ _ refl species c.in_ok-walls.ensures refl refl refl c.into_list-reactions.ensures refl refl c.in_ok-outputs.ensures start stop step c.unwrap_or.ensures refl
     ∙ drafted_is needed tables before holds
