@@ -1,1 +1,6 @@
 pub mod SurfaceHeld
+pub mod SoundValues
+pub mod SoundPanel
+pub mod SoundJump
+pub mod SoundCompartment
+pub mod SoundSurface
