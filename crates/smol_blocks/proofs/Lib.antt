@@ -4,3 +4,4 @@ pub mod SoundPanel
 pub mod SoundJump
 pub mod SoundCompartment
 pub mod SoundSurface
+pub mod SoundBlocks
