@@ -27,7 +27,7 @@ use Rattle.smol_blocks.proofs.SoundCompartment.{AreThese, bound_keeps, compartme
 use Rattle.smol_blocks.proofs.SoundSurface.{StandBehind, found_panel, length-panels_from, no_surface_lines, panel_wider, panels_sound, surface_keeps}
 use Rattle.smol_blocks.proofs.SoundValues.{found_behind, held, is_below, no_value, same_value}
 
--- the same of what the open block is, once it is known which one
+-- what holds of the open block, once it is known which one that is
 at_block : (dims : ℕ) (said : List BlockSaid) (block : Block) → block_of said ≡ block → AreBlocksOf dims said → IsBlock dims said block
 at_block dims said block is sound = subst (IsBlock dims said) is sound.block
 
@@ -52,6 +52,7 @@ opens_surface_keeps dims opened name said room out sound =
       block = (omega (arith, same, more), before.1, no_surface_lines dims (length (panels_of said)) sound.panel_count);
     }
 
+-- and so a line opens it
 start_surface_keeps : (axes : Axes) (dims : ℕ) (said : List BlockSaid) (line : Stated) (more : BlockSaid) → start_surface_in axes said line ≡ Ok more → AreBlocksOf dims said → AreBlocksOf dims (more ∷ said)
 unfolding start_surface_in
 start_surface_keeps axes dims said line more is sound =
@@ -78,6 +79,7 @@ opens_compartment_keeps dims opened name said room out sound =
       block = (before.0, omega (arith, same, more), no_compartment_lines dims (length (surfaces_of said)));
     }
 
+-- and so a line opens it
 start_compartment_keeps : (axes : Axes) (dims : ℕ) (said : List BlockSaid) (line : Stated) (more : BlockSaid) → start_compartment_in axes said line ≡ Ok more → AreBlocksOf dims said → AreBlocksOf dims (more ∷ said)
 unfolding start_compartment_in
 start_compartment_keeps axes dims said line more is sound =
@@ -107,6 +109,7 @@ surface_said : (rule : Result SurfaceSaid Kind) (more : BlockSaid) → say_surfa
 surface_said (Ok said) more is = (said, refl, same_value (of_surface said) more is)
 surface_said (Err kind) more is = no_value kind more is
 
+-- and so a line stands in its block
 in_surface_keeps : (given : SurfaceStatement) (axes : Axes) (dims : ℕ) (species : List (List ℕ)) (said : List BlockSaid) (line : Stated) (more : BlockSaid) (block : Block) → AreThese axes dims → block_of said ≡ block → in_surface_in given axes species said line block ≡ Ok more → AreBlocksOf dims said → AreBlocksOf dims (more ∷ said)
 in_surface_keeps given axes dims species said line more no_block known open_is is sound = no_value BadOrder more is
 in_surface_keeps given axes dims species said line more (in_compartment opened lines) known open_is is sound = no_value BadOrder more is
@@ -152,6 +155,7 @@ closes_surface_keeps dims opened lines surface said open_is sound =
       block = (same ∙ sym more, before.1);
     }
 
+-- and so a line closes it
 end_surface_keeps : (axes : Axes) (dims : ℕ) (species : List (List ℕ)) (said : List BlockSaid) (line : Stated) (more : BlockSaid) (block : Block) → block_of said ≡ block → end_surface_in axes species said line block ≡ Ok more → AreBlocksOf dims said → AreBlocksOf dims (more ∷ said)
 end_surface_keeps axes dims species said line more no_block open_is is sound = no_value BadOrder more is
 end_surface_keeps axes dims species said line more (in_compartment opened lines) open_is is sound = no_value BadOrder more is
@@ -176,6 +180,7 @@ of_compartment_keeps dims opened lines new said open_is lines_sound sound =
       block = subst (λ (block : Block). IsBlock dims (of_compartment new ∷ said) (with_compartment new block)) (sym open_is) (before.0, before.1, lines_sound);
     }
 
+-- a surface that bounds it
 bound_said_keeps : (dims : ℕ) (said : List BlockSaid) (line : Stated) (more : BlockSaid) (block : Block) → block_of said ≡ block → bound_said said line block ≡ Ok more → AreBlocksOf dims said → AreBlocksOf dims (more ∷ said)
 bound_said_keeps dims said line more no_block open_is is sound = no_value BadOrder more is
 bound_said_keeps dims said line more (in_surface opened lines) open_is is sound = no_value BadOrder more is
@@ -186,6 +191,7 @@ bound_said_keeps dims said line more (in_compartment opened lines) open_is is so
     (of_compartment_keeps dims opened lines (bounded surface.0) said open_is
     (bound_keeps dims (length (surfaces_of said)) (surface_names said) lines line surface.0 before.0 surface.1 before.2) sound)
 
+-- a point inside
 point_said_keeps : (axes : Axes) (dims : ℕ) (said : List BlockSaid) (line : Stated) (more : BlockSaid) (block : Block) → AreThese axes dims → block_of said ≡ block → point_said axes line block ≡ Ok more → AreBlocksOf dims said → AreBlocksOf dims (more ∷ said)
 point_said_keeps axes dims said line more no_block known open_is is sound = no_value BadOrder more is
 point_said_keeps axes dims said line more (in_surface opened lines) known open_is is sound = no_value BadOrder more is
@@ -210,6 +216,7 @@ closes_compartment_keeps dims opened lines compartment said open_is new sound =
       block = (before.0, before.1 ∙ sym more);
     }
 
+-- and so a line closes it
 end_compartment_keeps : (dims : ℕ) (said : List BlockSaid) (line : Stated) (more : BlockSaid) (block : Block) → block_of said ≡ block → end_compartment_said line block ≡ Ok more → AreBlocksOf dims said → AreBlocksOf dims (more ∷ said)
 end_compartment_keeps dims said line more no_block open_is is sound = no_value BadOrder more is
 end_compartment_keeps dims said line more (in_surface opened lines) open_is is sound = no_value BadOrder more is
@@ -248,6 +255,7 @@ nothing_first Surface axes species line more P given is = no_value BadOrder more
 nothing_first Point axes species line more P given is = no_value BadOrder more is
 nothing_first EndCompartment axes species line more P given is = no_value BadOrder more is
 
+-- a line more, by whether the number of axes is given
 keep_by : (given : BlockStatement) (axes : Axes) (dims : Option ℕ) (species : List (List ℕ)) (said : List BlockSaid) (line : Stated) (more : BlockSaid) → axes.dims ≡ dims → block_line_in given axes species said line ≡ Ok more → AreAxes axes → AreBlocks dims said → AreBlocks dims (more ∷ said)
 keep_by given axes None species said line more count is range sound =
     nothing_first given axes species line more (more ∷ said ≡ []) count (subst (λ (said : List BlockSaid). block_line_in given axes species said line ≡ Ok more) sound is)

@@ -1,5 +1,5 @@
 -- What lines without a fault say of a compartment is sound, and so is the compartment that comes of them.
-use Rattle.std.proofs.Common.{◌≡◌, ◌∙◌, ℕ, zero, suc, ℤ, pos, negsuc, ◌+◌, ◌<◌, ◌≤◌, ◌%◌, ◌≤ℤ◌, ◌+ℤ◌, ◌-ℤ◌, ◌*ℤ◌, ◌==◌, ◌&&◌, ◌||◌, Bool, true, false, nat_le, nat_lt, List, [], ◌∷◌, ◌++◌, length, Option, None, Some, IfSome, Ok, Err, unsigned_abs, if◌then◌else◌, refl, sym, arith, subst, length-append}
+use Rattle.std.proofs.Common.{◌≡◌, ◌∙◌, ℕ, zero, suc, ℤ, pos, negsuc, ◌+◌, ◌<◌, ◌≤◌, ◌%◌, ◌≤ℤ◌, ◌+ℤ◌, ◌-ℤ◌, ◌*ℤ◌, ◌==◌, ◌||◌, Bool, true, false, nat_le, nat_lt, List, [], ◌∷◌, ◌++◌, length, Option, None, Some, IfSome, Ok, Err, unsigned_abs, if◌then◌else◌, refl, sym, arith, subst, length-append}
 use Rattle.std.specs.Ordering.{int_eq}
 use Rattle.std.proofs.lemmas.Bool.Decides.{nat_tests}
 use Rattle.std.proofs.lemmas.Int.{ints}
@@ -23,11 +23,7 @@ use Rattle.smol_line.proofs.Passing.{valued, is_there}
 use Rattle.smol_line.proofs.Ranges.{decimal_in-within, number_in-within}
 use Rattle.smol_blocks.specs.BlocksSound.{AreCompartmentLines}
 use Rattle.smol_blocks.specs.Compartment.{CompartmentSaid, bounded, holds, bound_in, compartment_of, end_compartment_in, point_in, point_word, points_given, surfaces_named}
-use Rattle.smol_blocks.proofs.SoundValues.{held, is_below, no_value, same_value}
-
-both : (a b : Bool) → (a && b) ≡ true → (a ≡ true) × (b ≡ true)
-both true b is = (refl, is)
-both false b is = absurd cc
+use Rattle.smol_blocks.proofs.SoundValues.{both, held, is_below, no_value, same_value}
 
 -- a coordinate of a point on an axis
 record IsPlacedAt (dims axis : ℕ) (x : ℤ) : Type 0 where
@@ -35,19 +31,23 @@ record IsPlacedAt (dims axis : ℕ) (x : ℤ) : Type 0 where
   size : axis < dims → unsigned_abs x ≤ farthest + 1
   unused : dims ≤ axis → x ≡ pos 1
 
--- the place half a micro above or below one of these micros
+-- the place half a micro above whole micros is odd
 odd_above : (x : ℤ) → unsigned_abs (pos 2 *ℤ x +ℤ pos 1) % 2 ≡ 1
 odd_above x = omega (arith, ints)
 
+-- and below
 odd_below : (x : ℤ) → unsigned_abs (pos 2 *ℤ x -ℤ pos 1) % 2 ≡ 1
 odd_below x = omega (arith, ints)
 
+-- neither is farther than points may be
 size_above : (x : ℤ) → negsuc 999999999999 ≤ℤ x → x ≤ℤ pos most_micros → unsigned_abs (pos 2 *ℤ x +ℤ pos 1) ≤ farthest + 1
 size_above x low high = omega (arith, ints)
 
+-- and below
 size_below : (x : ℤ) → negsuc 999999999999 ≤ℤ x → x ≤ℤ pos most_micros → unsigned_abs (pos 2 *ℤ x -ℤ pos 1) ≤ farthest + 1
 size_below x low high = omega (arith, ints)
 
+-- ticks by whether the place is on the high wall
 chosen_ticks : (on : Bool) (x : ℤ) → negsuc 999999999999 ≤ℤ x → x ≤ℤ pos most_micros
     → (unsigned_abs (if on then pos 2 *ℤ x -ℤ pos 1 else pos 2 *ℤ x +ℤ pos 1) % 2 ≡ 1) × (unsigned_abs (if on then pos 2 *ℤ x -ℤ pos 1 else pos 2 *ℤ x +ℤ pos 1) ≤ farthest + 1)
 chosen_ticks true x low high = (odd_below x, size_below x low high)
@@ -71,6 +71,7 @@ placed_at dims axis None line x walled sound is =
     (record { odd = λ used. absurd (omega (arith, beyond, used)); size = λ used. absurd (omega (arith, beyond, used)); unused = λ _. refl })
 placed_at dims axis (Some bounds) line x walled sound is = walled_at dims axis bounds (word_at line (1 + axis)) x sound.in_use is
 
+-- the coordinates of a point, one by one
 three_placed : (dims : ℕ) (x y z : ℤ) → 1 ≤ dims → dims ≤ 3 → IsPlacedAt dims 0 x → IsPlacedAt dims 1 y → IsPlacedAt dims 2 z → AreCoordinates (farthest + 1) dims (x ∷ y ∷ z ∷ [])
 three_placed zero x y z least most a b c = absurd (omega (arith, least))
 three_placed (suc zero) x y z least most a b c = (a.odd (omega arith), a.size (omega arith), (b.unused (omega arith), (c.unused (omega arith), tt)))
@@ -87,6 +88,7 @@ pub record AreThese (axes : Axes) (dims : ℕ) : Type 0 where
   pub y : IfSome axes.y (IsBounded (Some dims) 1)
   pub z : IfSome axes.z (IsBounded (Some dims) 2)
 
+-- what is known of axes whose count is given
 pub these : (axes : Axes) (dims : ℕ) → AreAxes axes → axes.dims ≡ Some dims → AreThese axes dims
 these axes dims sound given =
     let range = subst (λ (count : Option ℕ). IfSome count (λ dims. (1 ≤ dims) × (dims ≤ 3))) given sound.dims in
@@ -104,6 +106,7 @@ pub same_dims : (axes : Axes) (dims found : ℕ) → axes.dims ≡ Some dims →
 same_dims axes dims found given is =
     let there = is_there axes.dims BadOrder found is in cc
 
+-- the count of axes, by the test that each has walls
 chosen_walls : (test : Bool) (dims found : ℕ) → (if test then Ok dims else Err BadOrder) ≡ Ok found → (test ≡ true) × (dims ≡ found)
 chosen_walls true dims found is = (refl, same_value dims found is)
 chosen_walls false dims found is = no_value BadOrder found is
@@ -116,6 +119,7 @@ walls_there axes dims found given is =
     let walled = chosen_walls (are_walled count.0 axes) count.0 found count.2 in
     (same ∙ walled.1, subst (λ (count : ℕ). are_walled count axes ≡ true) (sym same) walled.0)
 
+-- the coordinates of a line
 at_sound : (axes : Axes) (dims : ℕ) (line : Stated) (at : List ℤ) → AreThese axes dims → are_walled dims axes ≡ true → read_axes point_word (pos 1) 1 axes line ≡ Ok at → IsPoint dims (record { 0 = at })
 unfolding read_axes
 at_sound axes dims line at sound walled is =
@@ -135,6 +139,7 @@ record IsPointOf (dims : ℕ) (before : List CompartmentSaid) (point : Place) : 
   sound : IsPoint dims point
   room : length (points_given before) < most_points
 
+-- and it is so of the point of every line without a fault
 point_is : (axes : Axes) (dims : ℕ) (before : List CompartmentSaid) (line : Stated) (point : Place) → AreThese axes dims → point_in axes before line ≡ Ok point → IsPointOf dims before point
 unfolding point_in
 point_is axes dims before line point sound is =

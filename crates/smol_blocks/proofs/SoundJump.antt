@@ -17,11 +17,7 @@ use Rattle.smol_blocks.specs.BlocksSound.{LeadsAmong, LeadsFrom}
 use Rattle.smol_blocks.specs.Faces.{face_in}
 use Rattle.smol_blocks.specs.Jump.{are_congruent, arrow_in, edge_of, jump_in, no_rect}
 use Rattle.smol_blocks.specs.Surface.{led_by, nearer, same_face}
-use Rattle.smol_blocks.proofs.SoundValues.{found_before, held, same_value}
-
-both : (a b : Bool) → (a && b) ≡ true → (a ≡ true) × (b ≡ true)
-both true b is = (refl, is)
-both false b is = absurd cc
+use Rattle.smol_blocks.proofs.SoundValues.{both, found_before, held, same_value}
 
 -- rectangles that pass the test are congruent
 congruent : (a b : Rect) → are_congruent a b ≡ true → IsCongruent a b
@@ -38,6 +34,7 @@ congruent a b passes =
       );
     }
 
+-- the first is congruent to the second, and so is the second to the first
 turned : (a b : Rect) → IsCongruent a b → IsCongruent b a
 turned a b same = record { axis = sym same.axis; edges = (sym same.edges.0, sym same.edges.1, sym same.edges.2) }
 
@@ -47,6 +44,7 @@ pub record IsLeading (rects : List Rect) (leading : Leading) : Type 0 where
   pub to : leading.to < length rects
   pub congruent_are : IsCongruent (slice_index_or rects leading.from no_rect) (slice_index_or rects leading.to no_rect)
 
+-- and it is so of the jump of every line without a fault
 pub jump_sound : (names : List (List ℕ)) (rects : List Rect) (line : Stated) (leading : Leading) → length names ≡ length rects → jump_in names rects line ≡ Ok leading → IsLeading rects leading
 unfolding jump_in
 jump_sound names rects line leading many is =
@@ -71,6 +69,7 @@ leads_here rects from to one starts ends same =
     subst (λ (rect : Option Rect). LeadsFrom rects rect (Some (to, one))) (sym (slice_get-get_or rects from no_rect starts))
     (subst (λ (rect : Option Rect). IsSomeAnd rect (IsCongruent (slice_index_or rects from no_rect))) (sym (slice_get-get_or rects to no_rect ends)) same)
 
+-- where a jump leads with one more, by whether that leads from the face or back to it
 chosen_leads : (there back : Bool) (rects : List Rect) (leading : Leading) (panel : ℕ) (older : Option (ℕ × Face)) → IsLeading rects leading → (there ≡ true → leading.from ≡ panel) → (back ≡ true → leading.to ≡ panel) → LeadsFrom rects (slice_get rects panel) older
     → LeadsFrom rects (slice_get rects panel) (nearer (if there then Some (leading.to, leading.to_face) else (if back then Some (leading.from, leading.from_face) else None)) older)
 chosen_leads true back rects leading panel older sound starts ends before =
@@ -96,10 +95,12 @@ nowhere : (rects : List Rect) (rect : Option Rect) → LeadsFrom rects rect None
 nowhere rects None = tt
 nowhere rects (Some rect) = tt
 
+-- with more rectangles a jump from this one leads to a congruent one still
 among_more : (rects more : List Rect) (rect : Rect) (to : Option (ℕ × Face)) → LeadsAmong rects rect to → LeadsAmong (rects ++ more) rect to
 among_more rects more rect None leads = tt
 among_more rects more rect (Some to) leads = found_before (IsCongruent rect) rects more to.0 leads
 
+-- the same of a jump from a rectangle that there may be in a part of the list
 from_more : (rects more part : List Rect) (panel : ℕ) (to : Option (ℕ × Face)) → LeadsFrom rects (slice_get part panel) to → LeadsFrom (rects ++ more) (slice_get (part ++ more) panel) to
 from_more rects more [] panel None leads = nowhere (rects ++ more) (slice_get more panel)
 from_more rects more [] panel (Some to) leads = absurd leads

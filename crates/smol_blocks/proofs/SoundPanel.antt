@@ -28,9 +28,11 @@ record IsReach (dims across axis : ℕ) (corner extent : ℤ) : Type 0 where
   ordered : ticks corner ≤ℤ ticks (corner +ℤ extent)
   flat : across ≡ axis → ticks corner ≡ ticks (corner +ℤ extent)
 
+-- ticks of a place of whole micros are even
 ticks_even : (x : ℤ) → IsEven (ticks x)
 ticks_even x = omega (arith, ints)
 
+-- and reach no farther than planes may
 ticks_size : (x : ℤ) → negsuc 999999999999 ≤ℤ x → x ≤ℤ pos most_micros → unsigned_abs (ticks x) ≤ farthest
 ticks_size x low high = omega (arith, ints)
 
@@ -63,6 +65,7 @@ unused_reach dims across axis corner extent within beyond zero_is one_is =
       flat = λ same. absurd (omega (arith, within, beyond, same));
     }))
 
+-- on any axis, by whether it is in use and whether the rectangle lies across it
 chosen_reach : (used flat : Bool) (dims across axis : ℕ) (word edge : List ℕ) (corner extent : ℤ) → used ≡ nat_lt axis dims → flat ≡ (axis == across) → across < dims
     → (if used then micros_in word else Ok (pos 0)) ≡ Ok corner → (if used then (if flat then Ok (pos 0) else edge_in corner edge) else Ok (pos 1)) ≡ Ok extent
     → IsReach dims across axis corner extent
@@ -82,6 +85,7 @@ chosen_reach true false dims across axis word edge corner extent used flat withi
 chosen_reach false flat dims across axis word edge corner extent used flat_is within at reach =
     unused_reach dims across axis corner extent within (grind (arith, nat_tests)) (same_value (pos 0) corner at) (same_value (pos 1) extent reach)
 
+-- and by the words of a line
 reach_in : (dims across axis : ℕ) (line : Stated) (corner extent : ℤ) → across < dims → corner_in dims axis line ≡ Ok corner → extent_in dims across axis corner line ≡ Ok extent → IsReach dims across axis corner extent
 reach_in dims across axis line corner extent within at reach =
     chosen_reach (nat_lt axis dims) (axis == across) dims across axis (word_at line (3 + axis)) (word_at line (edge_place dims across axis)) corner extent refl refl within at reach
@@ -130,6 +134,7 @@ rect_sound dims across line rect few within is =
       high_unused = (p.high_unused, q.high_unused, r.high_unused);
     })
 
+-- the axis behind a sign, by the test that it is in use
 chosen_facing : (test : Bool) (dims axis : ℕ) (greater : Bool) (facing : Facing) → test ≡ nat_lt axis dims → (if test then Ok (record { axis = axis; greater = greater }) else Err OutOfRange) ≡ Ok facing → facing.axis < dims
 chosen_facing true dims axis greater facing test is =
     let below : axis < dims = grind (arith, nat_tests) in
@@ -142,6 +147,7 @@ facing_below dims None axis facing is = no_value _ facing is
 facing_below dims (Some greater) (Err kind) facing is = no_value _ facing is
 facing_below dims (Some greater) (Ok axis) facing is = chosen_facing (nat_lt axis dims) dims axis greater facing refl is
 
+-- the rectangle of a line's shape
 shape_sound : (dims : ℕ) (line : Stated) (shape : Facing × Rect) → dims ≤ 3 → shape_in dims line ≡ Ok shape → IsPanelRect dims shape.1
 unfolding shape_in
 shape_sound dims line shape few is =
@@ -158,6 +164,7 @@ pub record IsShown (dims others : ℕ) (names : List (List ℕ)) (panel : Named)
   pub rect : IsPanelRect dims panel.rect
   pub room : others + length names < most_panels
 
+-- and it is so of the panel of every line without a fault
 pub panel_sound : (dims others : ℕ) (names : List (List ℕ)) (line : Stated) (panel : Named) → dims ≤ 3 → panel_in dims others names line ≡ Ok panel → IsShown dims others names panel
 unfolding panel_in
 panel_sound dims others names line panel few is =

@@ -103,6 +103,7 @@ abbrev pub StandBehind : ℕ → List Rect → List ThePanel → Type 0
 StandBehind others rects panels =
     (rect : Rect) (at : ℕ) → IsSomeAnd (slice_get rects at) (IsCongruent rect) → IsSomeAnd (slice_get panels (others + at)) (λ (other : ThePanel). IsCongruent rect other.rect)
 
+-- where jumps lead over the whole file
 leads_over : (others : ℕ) (rects : List Rect) (panels : List ThePanel) (rect : Rect) (to : Option (ℕ × Face)) → StandBehind others rects panels → LeadsAmong rects rect to → LeadsToCongruent panels rect (numbered_face others to)
 leads_over others rects panels rect None stand among = tt
 leads_over others rects panels rect (Some to) stand among = stand rect to.0 among
@@ -111,16 +112,19 @@ leads_over others rects panels rect (Some to) stand among = stand rect to.0 amon
 abbrev LeadFrom : List Rect → List Rect → ℕ → Face → List SurfaceSaid → Type 0
 LeadFrom all rects number one lines = (at : ℕ) → LeadsFrom all (slice_get rects at) (led_to (number + at) one lines)
 
+-- where it leads from the first of these rectangles
 first_leads : (all rects : List Rect) (rect : Rect) (number : ℕ) (one : Face) (lines : List SurfaceSaid) → LeadFrom all (rect ∷ rects) number one lines → LeadsAmong all rect (led_to number one lines)
 first_leads all rects rect number one lines lead =
     let same : number + 0 ≡ number = omega arith in
     subst (λ (at : ℕ). LeadsAmong all rect (led_to at one lines)) same (lead 0)
 
+-- and from those behind it
 others_lead : (all rects : List Rect) (rect : Rect) (number : ℕ) (one : Face) (lines : List SurfaceSaid) → LeadFrom all (rect ∷ rects) number one lines → LeadFrom all rects (number + 1) one lines
 others_lead all rects rect number one lines lead at =
     let same : number + suc at ≡ number + 1 + at = omega arith in
     subst (λ (place : ℕ). LeadsFrom all (slice_get rects at) (led_to place one lines)) same (lead (suc at))
 
+-- the panels from a number on
 panels_from_sound : (dims surface_count surface others : ℕ) (panels : List ThePanel) (all : List Rect) (lines : List SurfaceSaid) (number : ℕ) (rects : List Rect) (sides : List Bool)
     → surface < surface_count → StandBehind others all panels → All (IsPanelRect dims) rects → LeadFrom all rects number Front lines → LeadFrom all rects number Back lines
     → All (IsPanel dims surface_count panels) (panels_from surface others lines number rects sides)
@@ -147,6 +151,7 @@ panels_from_sound dims surface_count surface others panels all lines number (rec
     (panels_from_sound dims surface_count surface others panels all lines (number + 1) rects sides below stand (All-tail (IsPanelRect dims) rect rects sound)
     (others_lead all rects rect number Front lines front) (others_lead all rects rect number Back lines back))
 
+-- all rectangles stand from number 0 on
 from_start : (all : List Rect) (one : Face) (lines : List SurfaceSaid) → ((panel : ℕ) → LeadsFrom all (slice_get all panel) (led_to panel one lines)) → LeadFrom all all 0 one lines
 from_start all one lines lead at =
     let same : at ≡ 0 + at = omega arith in
@@ -159,6 +164,7 @@ panels_sound dims surface_count surface others panels lines below stand sound =
     panels_from_sound dims surface_count surface others panels (rects_of lines) lines 0 (rects_of lines) (sides_of lines) below stand sound.rects
     (from_start (rects_of lines) Front lines sound.front_to) (from_start (rects_of lines) Back lines sound.back_to)
 
+-- with more panels a jump leads to a congruent one still
 leads_on : (panels more : List ThePanel) (rect : Rect) (to : Option (ℕ × Face)) → LeadsToCongruent panels rect to → LeadsToCongruent (panels ++ more) rect to
 leads_on panels more rect None among = tt
 leads_on panels more rect (Some to) among = found_before (λ (other : ThePanel). IsCongruent rect other.rect) panels more to.0 among

@@ -1,5 +1,5 @@
 -- What follows from a rule that gives a value, and what is found in a list that more follows.
-use Rattle.std.proofs.Common.{◌≡◌, ℕ, zero, suc, ◌+◌, ◌<◌, nat_lt, Bool, true, List, [], ◌∷◌, ◌++◌, length, Option, Result, Ok, Err, IsSomeAnd, slice_get, arith, subst}
+use Rattle.std.proofs.Common.{◌≡◌, ℕ, zero, suc, ◌+◌, ◌<◌, ◌&&◌, nat_lt, Bool, true, false, List, [], ◌∷◌, ◌++◌, length, Option, Result, Ok, Err, IsSomeAnd, slice_get, arith, refl, subst}
 use Rattle.std.proofs.lemmas.Bool.Decides.{Decides-ltb}
 use Rattle.smol_types.specs.declared.fault.Kind.{Kind}
 use Rattle.smol_line.specs.Checks.{unless, passing}
@@ -18,6 +18,11 @@ pub held : {T : Type 0} (condition : Bool) (kind : Kind) (tests : List (Option K
 held condition kind tests value last is =
     let first = passed (unless condition kind) tests value last is in
     (holds condition kind first.0, first.1)
+
+-- both of two conditions hold
+pub both : (a b : Bool) → (a && b) ≡ true → (a ≡ true) × (b ≡ true)
+both true b is = (refl, is)
+both false b is = absurd cc
 
 -- what the test of an order tells
 pub is_below : (a b : ℕ) → nat_lt a b ≡ true → a < b
