@@ -101,7 +101,7 @@ const BLOCKS: [(u8, &str, Option<Kind>); 36] = [
     ),
 ];
 
-fn statement(line: &StatedLine<'_>) -> SurfaceStatement {
+pub fn surface_statement(line: &StatedLine<'_>) -> SurfaceStatement {
     if spells(word_at(line, 0), "action") {
         SurfaceStatement::Action
     } else if spells(word_at(line, 0), "panel") {
@@ -111,7 +111,7 @@ fn statement(line: &StatedLine<'_>) -> SurfaceStatement {
     }
 }
 
-fn two_species(alloc: Global) -> Result<NameSet, Refusal> {
+pub fn two_species(alloc: Global) -> Result<NameSet, Refusal> {
     let mut species = NameSet::new(alloc);
     let first = new_name_in(&species, b"A")?;
     species.add(alloc, first)?;
@@ -120,7 +120,7 @@ fn two_species(alloc: Global) -> Result<NameSet, Refusal> {
     Ok(species)
 }
 
-fn text_of(alloc: Global, lines: &str) -> Result<Text, TextFault> {
+pub fn text_of(alloc: Global, lines: &str) -> Result<Text, TextFault> {
     if lines.len() > 4_194_304 {
         return Err(TextFault::OutOfMemory);
     }
@@ -141,11 +141,8 @@ fn read_block(
     }
     let mut table = SurfaceTable::new(alloc, species.len())?;
     for k in 0..text.len() {
-        if table.panels.names.len() > 4096 {
-            return Err(Refusal::OutOfMemory);
-        }
         let line = text.line(k);
-        table.read(alloc, statement(&line), dims, species, 0, &line)?;
+        table.read(alloc, surface_statement(&line), dims, species, 0, &line)?;
     }
     Ok(table)
 }
