@@ -1,1 +1,2 @@
+pub mod BlocksHeld
 pub mod SurfaceHeld

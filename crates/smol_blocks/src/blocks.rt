@@ -156,13 +156,6 @@ impl Blocks {
         }
     }
 
-    // Takes in the surface of a block with its panels.
-    fn close_surface(&mut self, table: SurfaceTable) -> Result<(), AllocError> {
-        add_panels(&mut self.panels, &table, self.surfaces.len() as u16)?;
-        self.surfaces.push(surface_of(table.actions))?;
-        Ok(())
-    }
-
     // `end_surface`.
     fn end_surface(
         &mut self,
@@ -178,7 +171,8 @@ impl Blocks {
             OpenBlock::Surface { table, .. } => {
                 needs_dim(axes)?;
                 word_count(1, line)?;
-                self.close_surface(table)?;
+                add_panels(&mut self.panels, &table, self.surfaces.len() as u16)?;
+                self.surfaces.push(surface_of(table.actions))?;
                 Ok(())
             }
             _ => Err(Refusal::At(Kind::BadOrder)),

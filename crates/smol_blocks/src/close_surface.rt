@@ -34,14 +34,13 @@ pub fn add_panels(
     ensures count { OnOk result (length panels.new ≡ length panels.old + length table.now.panels.names) }
 {
     let others = panels.len();
-    let new = &table.panels;
-    for k in 0..new.rects.len() {
+    for k in 0..table.panels.rects.len() {
         panels.push(Panel {
-            rect: new.rects[k],
-            greater: new.sides[k],
+            rect: table.panels.rects[k],
+            greater: table.panels.sides[k],
             surface,
-            front_to: numbered_face(others, new.front_to[k]),
-            back_to: numbered_face(others, new.back_to[k]),
+            front_to: numbered_face(others, table.panels.front_to[k]),
+            back_to: numbered_face(others, table.panels.back_to[k]),
         })?;
     }
     Ok(())
@@ -49,8 +48,7 @@ pub fn add_panels(
 
 /// The surface whose faces do this.
 pub fn surface_of(actions: ActionTable) -> Surface
-    ensures front { result.front ≡ actions.front.items }
-    ensures back { result.back ≡ actions.back.items }
+    ensures { result ≡ record { front = actions.front.items; back = actions.back.items } }
 {
     Surface {
         front: Items::from_vec(actions.front),
