@@ -178,23 +178,49 @@ fn blocks_are_judged(rt: HostRuntime) -> Result<(), Fail> {
 }
 
 #[test]
-fn blocks_need_axes_and_have_room(rt: HostRuntime) -> Result<(), Fail> {
+fn blocks_need_axes(rt: HostRuntime) -> Result<(), Fail> {
     let early = fault_of(rt.alloc(), &NO_DIM, "start_surface")?;
     assert_eq!(rt; early, Some(Refusal::At(Kind::BadOrder)));
     let unwalled = fault_of(rt.alloc(), &NO_WALLS, "start_compartment c\npoint")?;
     assert_eq!(rt; unwalled, Some(Refusal::At(Kind::BadOrder)));
-    let full = format!(in rt.alloc(); "{FULL}end_compartment")?;
-    assert_eq!(rt; fault_of(rt.alloc(), &TWO_AXES, full.as_str())?, None);
-    for more in ["surface s", "point 1 1"] {
-        let lines = format!(in rt.alloc(); "{FULL}{more}")?;
-        let fault = fault_of(rt.alloc(), &TWO_AXES, lines.as_str())?;
-        assert_eq!(rt; fault, Some(Refusal::At(Kind::TooMany)), "{more}");
+    Ok(())
+}
+
+// The fault of a full compartment with one more line.
+fn fault_behind(alloc: Global, more: &str) -> Result<Option<Refusal>, Fail> {
+    let lines = format!(in alloc; "{FULL}{more}")?;
+    fault_of(alloc, &TWO_AXES, lines.as_str())
+}
+
+#[test]
+fn compartments_have_room(rt: HostRuntime) -> Result<(), Fail> {
+    for (more, kind) in [
+        ("end_compartment", None),
+        ("surface s", Some(Kind::TooMany)),
+        ("point 1 1", Some(Kind::TooMany)),
+    ] {
+        let fault = fault_behind(rt.alloc(), more)?;
+        assert_eq!(rt; fault, kind.map(Refusal::At), "{more}");
     }
     Ok(())
 }
 
-// The panel of a surface at x = 2m ticks, from y to 4,000,000 ticks above.
-fn panel(x: i64, y: i64, greater: bool, surface: u16) -> Panel
+// What the whole text gives.
+fn whole(alloc: Global) -> Result<Blocks, Fail> {
+    let species = two_species(alloc)?;
+    let text = text_of(alloc, WHOLE)?;
+    Ok(read_blocks(alloc, &TWO_AXES, &species, &text)?)
+}
+
+// A panel across the first axis at x that goes from y on, with its surface and its jumps.
+fn panel(
+    x: i64,
+    y: i64,
+    greater: bool,
+    surface: u16,
+    front_to: Option<(u16, Face)>,
+    back_to: Option<(u16, Face)>,
+) -> Panel
     requires { unsigned_abs y ≤ 2 ^ 32 }
 {
     Panel {
@@ -205,45 +231,44 @@ fn panel(x: i64, y: i64, greater: bool, surface: u16) -> Panel
         },
         greater,
         surface,
-        front_to: None,
-        back_to: None,
+        front_to,
+        back_to,
     }
 }
 
 #[test]
 fn panels_are_numbered_over_all_blocks(rt: HostRuntime) -> Result<(), Fail> {
-    let species = two_species(rt.alloc())?;
-    let text = text_of(rt.alloc(), WHOLE)?;
-    let blocks = read_blocks(rt.alloc(), &TWO_AXES, &species, &text)?;
-    let panels = [
-        Panel {
-            front_to: Some((1, Face::Back)),
-            ..panel(2_000_000, 0, true, 0)
-        },
-        panel(6_000_000, 0, false, 0),
-        Panel {
-            front_to: Some((3, Face::Back)),
-            ..panel(8_000_000, 2_000_000, true, 1)
-        },
-        Panel {
-            back_to: Some((2, Face::Front)),
-            ..panel(10_000_000, 2_000_000, true, 1)
-        },
+    let panels = whole(rt.alloc())?.panels;
+    let wanted = [
+        panel(2_000_000, 0, true, 0, Some((1, Face::Back)), None),
+        panel(6_000_000, 0, false, 0, None, None),
+        panel(8_000_000, 2_000_000, true, 1, Some((3, Face::Back)), None),
+        panel(10_000_000, 2_000_000, true, 1, None, Some((2, Face::Front))),
     ];
-    assert_eq!(rt; blocks.panels.as_slice(), panels.as_slice());
-    let [a, b] = blocks.surfaces.as_slice() else {
-        return Err(Refusal::OutOfMemory.into());
-    };
-    let reflects = [Action::Reflect, Action::Reflect];
-    assert_eq!(rt; a.back.as_slice(), reflects.as_slice());
-    let transmits = [Action::Transmit, Action::Transmit];
-    assert_eq!(rt; b.front.as_slice(), transmits.as_slice());
-    let [c] = blocks.compartments.as_slice() else {
-        return Err(Refusal::OutOfMemory.into());
-    };
-    assert_eq!(rt; c.surfaces.as_slice(), [1, 0].as_slice());
-    let points = [Place([9_999_999, 14_000_001, 1])];
-    assert_eq!(rt; c.points.as_slice(), points.as_slice());
-    assert_eq!(rt; blocks.is_outside(), true);
+    assert_eq!(rt; panels.as_slice(), wanted.as_slice());
+    Ok(())
+}
+
+#[test]
+fn surfaces_keep_what_their_lines_say(rt: HostRuntime) -> Result<(), Fail> {
+    let surfaces = whole(rt.alloc())?.surfaces;
+    assert_eq!(rt; surfaces.len(), 2);
+    let wanted = [Action::Reflect, Action::Transmit];
+    for (surface, action) in surfaces.as_slice().iter().zip(wanted) {
+        assert_eq!(rt; surface.front.as_slice(), [action, action].as_slice());
+        assert_eq!(rt; surface.back.as_slice(), [action, action].as_slice());
+    }
+    Ok(())
+}
+
+#[test]
+fn compartments_keep_what_their_lines_say(rt: HostRuntime) -> Result<(), Fail> {
+    let compartments = whole(rt.alloc())?.compartments;
+    assert_eq!(rt; compartments.len(), 1);
+    for compartment in compartments.as_slice() {
+        assert_eq!(rt; compartment.surfaces.as_slice(), [1, 0].as_slice());
+        let point = Place([9_999_999, 14_000_001, 1]);
+        assert_eq!(rt; compartment.points.as_slice(), [point].as_slice());
+    }
     Ok(())
 }
