@@ -1,3 +1,6 @@
 pub mod Parts
 pub mod Moving
 pub mod Making
+pub mod Safe
+pub mod Commanding
+pub mod Linked

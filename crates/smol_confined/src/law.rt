@@ -1,9 +1,13 @@
 //! Laws of closed reflecting boxes. These functions do nothing: the laws are their contracts.
-ghost use Rattle.std.specs.Prelude.{ℕ};
+ghost use Rattle.std.specs.Prelude.{◌≡◌, ℕ, Ok};
 ghost use Rattle.smol_geom.specs.declared.cuboid.Cuboid.{Cuboid};
 ghost use Rattle.smol_types.specs.declared.draft.Draft.{Draft};
 ghost use Rattle.smol_types.specs.declared.state.State.{State};
-ghost use Rattle.smol_confined.specs.Laws.{IsBoxedStep, LoneProductsAreConfined, MotionIsConfined};
+ghost use Rattle.smol_types.specs.Sound.{IsSound};
+ghost use Rattle.smol_meaning.specs.Run.{run_of};
+ghost use Rattle.smol_meaning.specs.Seen.{IsClosedBox};
+ghost use Rattle.smol_meaning.specs.Stretch.{Stretch};
+ghost use Rattle.smol_confined.specs.Laws.{IsBoxedStep, LoneProductsAreConfined, MotionIsConfined, RunIsConfined, StepIsConfined};
 
 /// No molecule leaves a closed reflecting box by its motion in a step.
 pub fn motion_stays_inside()
@@ -14,4 +18,15 @@ pub fn motion_stays_inside()
 pub fn products_of_one_stay_inside()
     ensures { (draft : Draft) (seed : ℕ) (state : State) (box : Cuboid) → IsBoxedStep draft state box
         → LoneProductsAreConfined draft seed state box }
+{}
+
+/// A molecule that is inside a closed reflecting box before a step is inside it after the step, or gone.
+pub fn a_step_keeps_inside()
+    ensures { (draft : Draft) (seed : ℕ) (state : State) (box : Cuboid) → IsBoxedStep draft state box → StepIsConfined draft seed state box }
+{}
+
+/// A molecule that is inside a closed reflecting box in one state of a run is inside it in each later one, or gone.
+pub fn a_run_keeps_inside()
+    ensures { (draft : Draft) (seed : ℕ) (run : Stretch) (box : Cuboid) → IsSound draft → run_of draft seed ≡ Ok run → IsClosedBox draft box
+        → RunIsConfined run box }
 {}

@@ -3,4 +3,6 @@
 
 mod law;
 
-pub use law::{motion_stays_inside, products_of_one_stay_inside};
+pub use law::{
+    a_run_keeps_inside, a_step_keeps_inside, motion_stays_inside, products_of_one_stay_inside,
+};
