@@ -4,3 +4,7 @@ pub mod Making
 pub mod Safe
 pub mod Commanding
 pub mod Linked
+pub mod First
+pub mod Leaving
+pub mod Barring
+pub mod Pairing

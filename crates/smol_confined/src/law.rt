@@ -7,7 +7,7 @@ ghost use Rattle.smol_types.specs.Sound.{IsSound};
 ghost use Rattle.smol_meaning.specs.Run.{run_of};
 ghost use Rattle.smol_meaning.specs.Seen.{IsClosedBox};
 ghost use Rattle.smol_meaning.specs.Stretch.{Stretch};
-ghost use Rattle.smol_confined.specs.Laws.{IsBoxedStep, LoneProductsAreConfined, MotionIsConfined, RunIsConfined, StepIsConfined};
+ghost use Rattle.smol_confined.specs.Laws.{IsBoxedStep, LoneProductsAreConfined, MotionIsConfined, PairsAreConfined, RunIsConfined, StepIsConfined};
 
 /// No molecule leaves a closed reflecting box by its motion in a step.
 pub fn motion_stays_inside()
@@ -29,4 +29,10 @@ pub fn a_step_keeps_inside()
 pub fn a_run_keeps_inside()
     ensures { (draft : Draft) (seed : ℕ) (run : Stretch) (box : Cuboid) → IsSound draft → run_of draft seed ≡ Ok run → IsClosedBox draft box
         → RunIsConfined run box }
+{}
+
+/// Two molecules that react with each other are both inside a closed reflecting box or both outside, and where they are
+/// inside, so is each of their products that lives.
+pub fn pairs_are_on_one_side()
+    ensures { (draft : Draft) (seed : ℕ) (state : State) (box : Cuboid) → IsBoxedStep draft state box → PairsAreConfined draft seed state box }
 {}
