@@ -46,10 +46,7 @@ one_at most zero (x ∷ xs) (suc axis) within unused are = one_at most zero xs a
 one_at most (suc dims) (x ∷ xs) zero within unused are = absurd (omega arith)
 one_at most (suc dims) (x ∷ xs) (suc axis) within unused are = one_at most dims xs axis (omega arith) (omega arith) are.2
 
-module _ (dims most : ℕ) (below : dims ≤ 3) (plates : List Plate) (fit : All (IsPlate dims) plates) (box : Cuboid) (closed : IsClosed dims plates box) (a b : Place) (from : StandsWithin dims most a) (to : StandsWithin dims most b) (inside : IsInside box a) where
-  start : ℕ → ℤ
-  start j = on_axis a.0 j
-
+module _ (dims most : ℕ) (plates : List Plate) (fit : All (IsPlate dims) plates) (box : Cuboid) (closed : IsClosed dims plates box) (a b : Place) (from : StandsWithin dims most a) (to : StandsWithin dims most b) (inside : IsInside box a) where
   odd_end : (j : ℕ) → j < 3 → IsOdd (on_axis b.0 j)
   odd_end j l = odd_at most dims b.0 j (omega (arith, to.axes)) to.coordinates
 
@@ -191,7 +188,7 @@ pub seen_inside : (draft : Draft) → IsSound draft → (most species : ℕ) (bo
     → StandsWithin draft.dims most a → StandsWithin draft.dims most b → IsInside box a → is_barred draft species a b ≡ false → IsInside box b
 seen_inside draft sound most species box closed a b from to inside seen =
     ⊎_elim (λ (there : IsInside box b). there) (λ hidden. absurd (no (is_barred draft species a b) hidden seen))
-    (ends_or_barred draft.dims most sound.dims_below (plates_of draft species) (plates_fit draft species sound) box closed a b from to inside)
+    (ends_or_barred draft.dims most (plates_of draft species) (plates_fit draft species sound) box closed a b from to inside)
   where
     no : (test : Bool) → test ≡ true → test ≡ false → ⊥
     no test barred seen = cc

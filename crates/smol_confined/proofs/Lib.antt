@@ -8,3 +8,4 @@ pub mod First
 pub mod Leaving
 pub mod Barring
 pub mod Pairing
+pub mod Filling

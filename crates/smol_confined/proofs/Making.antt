@@ -57,15 +57,20 @@ module _ (draft : Draft) (sound : IsSound draft) (box : Cuboid) (closed : IsClos
       })
       inside
 
-  -- what an event makes inside is inside
-  pub makes_inside : (event : Fired) → IsEvent draft event → StandsNear draft event.start → IsInside box event.start → MakesInside draft box event
-  makes_inside event is stands inside = λ serial.
+  -- each product of an event inside is inside where it lives
+  pub born_inside : (serial : ℕ) (event : Fired) → IsEvent draft event → StandsNear draft event.start → IsInside box event.start
+      → All (λ (birth : Birth). IfSome (born draft birth) (StandsIn box)) (births_of_event draft serial event)
+  born_inside serial event is stands inside =
       let births = births_of_event draft serial event in
       let are = births_of_event_are draft sound serial event is in
       let there = starts_there (placement_of draft event.reaction) event serial 0 (products_of draft event.reaction) in
-      All-filter_map (born draft) (StandsIn box) births
-      (λ i d within. born_in (get_or births i d) (are i d within)
-      (subst (StandsNear draft) (there i d within) stands) (subst (IsInside box) (there i d within) inside))
+      λ i d within. born_in (get_or births i d) (are i d within)
+      (subst (StandsNear draft) (there i d within) stands) (subst (IsInside box) (there i d within) inside)
+
+  -- what an event makes inside is inside
+  pub makes_inside : (event : Fired) → IsEvent draft event → StandsNear draft event.start → IsInside box event.start → MakesInside draft box event
+  makes_inside event is stands inside = λ serial.
+      All-filter_map (born draft) (StandsIn box) (births_of_event draft serial event) (born_inside serial event is stands inside)
 
   -- what a molecule makes alone that is inside is inside
   pub makes_inside_alone : (seed k : ℕ) (mol : Mol) → StandsNear draft mol.place → MakesInsideAlone draft seed k box mol

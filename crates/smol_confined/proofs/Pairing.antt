@@ -89,7 +89,7 @@ one_side draft sound most box closed a b first second see =
     )
 
 -- what holds of all holds of the one at a place
-at_place : (P : Mol → Type 0) (mols : List Mol) (i : ℕ) (mol : Mol) → slice_get mols i ≡ Some mol → All P mols → P mol
+pub at_place : (P : Mol → Type 0) (mols : List Mol) (i : ℕ) (mol : Mol) → slice_get mols i ≡ Some mol → All P mols → P mol
 at_place P mols i mol is all = subst P (get_or_from_slice_get mols i mol mol is) (all i mol (slice_get_within mols i mol is))
 
 -- an encounter of molecules near enough for ways to be defined

@@ -100,6 +100,14 @@ new_other box serial next draft birth given new = by_end (end_of_move draft (bir
     by_end (Absorbed number) = tt
     by_end (At place) = λ same. absurd (omega (arith, same, given, new))
 
+-- a state within the limit is the state
+pub passed : (most : ℕ) (state next : State) → within_limit most state ≡ Ok next → state ≡ next
+passed most state next is = go (nat_lt most (length state.mols)) is
+  where
+    go : (over : Bool) → cond over (Err (length state.mols)) (Ok state) ≡ Ok next → state ≡ next
+    go true is = absurd (cc is)
+    go false is = cc is
+
 module _ (draft : Draft) (sound : IsSound draft) (seed : ℕ) (box : Cuboid) (closed : IsClosedBox draft box) where
   -- a molecule that is not out isn't out after motion
   motion_safe : (k serial : ℕ) (mol : Mol) → IsMoveOf draft (diffusion draft seed k mol) → IsNotOut box serial mol → IfSome (diffused draft seed k mol) (IsNotOut box serial)
@@ -127,14 +135,6 @@ module _ (draft : Draft) (sound : IsSound draft) (seed : ℕ) (box : Cuboid) (cl
             (All-filter (remains draft seed k (reactions_of_two draft seed k mols)) P mols moved)
             (All-filter_map (born draft) P births (λ i d within. new_other box serial state.next draft (get_or births i d) given (new i d within)));
       }
-
-  -- a state within the limit is the state
-  passed : (most : ℕ) (state next : State) → within_limit most state ≡ Ok next → state ≡ next
-  passed most state next is = go (nat_lt most (length state.mols)) is
-    where
-      go : (over : Bool) → cond over (Err (length state.mols)) (Ok state) ≡ Ok next → state ≡ next
-      go true is = absurd (cc is)
-      go false is = cc is
 
   pub next_holds : (state next : State) → All (IsMoveOf draft) (moves_of draft seed state) → next_state draft seed state ≡ Ok next → Holds box state next
   unfolding next_state

@@ -63,8 +63,20 @@ abbrev pub StepIsConfined : Draft → ℕ → State → Cuboid → Type 0
 StepIsConfined draft seed state box =
     (next : State) (serial : ℕ) → next_state draft seed state ≡ Ok next → IsIn box serial state → IsInOrGone box serial next
 
+-- where all molecules are inside the box before the step, all are after it, those that are born among them
+abbrev pub StepKeepsAllIn : Draft → ℕ → State → Cuboid → Type 0
+StepKeepsAllIn draft seed state box =
+    (next : State) → next_state draft seed state ≡ Ok next → All (StandsIn box) state.mols → All (StandsIn box) next.mols
+
 -- a molecule that is inside the box in one state of a run is inside in each later one, or gone
 abbrev pub RunIsConfined : Stretch → Cuboid → Type 0
 RunIsConfined run box =
     (i j : ℕ) (earlier later : State) (serial : ℕ) → i < j → slice_get run.states i ≡ Some earlier → slice_get run.states j ≡ Some later
     → IsIn box serial earlier → IsInOrGone box serial later
+
+-- whatever step a run makes from one of its states, no product of what is inside the box leaves it, and no molecule inside reacts
+-- with one outside
+abbrev pub EventsOfRunAreConfined : Draft → ℕ → Stretch → Cuboid → Type 0
+EventsOfRunAreConfined draft seed run box =
+    All (λ (state : State). state.step + 1 ≤ last_step draft.start draft.stop draft.step
+    → LoneProductsAreConfined draft seed state box × PairsAreConfined draft seed state box) run.states
