@@ -1,0 +1,8 @@
+pub mod Passing
+pub mod WhoLemmas
+pub mod EchoLemmas
+pub mod OutputNames
+pub mod Commanded
+pub mod Values
+pub mod Between
+pub mod Sound

@@ -1,0 +1,12 @@
+pub mod Answers
+pub mod Known
+pub mod Times
+pub mod When
+pub mod Who
+pub mod Probability
+pub mod Outlet
+pub mod Echo
+pub mod Act
+pub mod Test
+pub mod Cmd
+pub mod OutputFiles
