@@ -1,3 +1,4 @@
+pub mod BlocksHeld
 pub mod SurfaceHeld
 pub mod SoundValues
 pub mod SoundPanel

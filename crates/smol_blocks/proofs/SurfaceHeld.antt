@@ -1,7 +1,6 @@
 -- The table of a block with what one line more says.
-use Rattle.std.proofs.Common.{◌≡◌, ◌&&◌, ◌++◌, ◌∷◌, [], ℕ, zero, suc, List, length, get_or, slice_index_or, None, Result, Ok, Err, OnOk, arith, refl, sym, ap, ◌∙◌, if◌then◌else◌}
+use Rattle.std.proofs.Common.{◌≡◌, ◌&&◌, ◌++◌, ◌∷◌, [], ℕ, zero, suc, List, get_or, slice_index_or, None, Result, Ok, Err, OnOk, refl, sym, ap, ◌∙◌, if◌then◌else◌}
 use Rattle.std.specs.Result.{IsOkAnd}
-use Rattle.std.proofs.lemmas.List.{length-append}
 use Rattle.smol_text.specs.Reading.{Stated}
 use Rattle.smol_types.specs.declared.fault.Kind.{Kind}
 use Rattle.smol_types.specs.declared.surface.Action.TheVariants.{Transmit}
@@ -18,7 +17,7 @@ use Rattle.smol_blocks.specs.declared.surface_table.SurfaceTable.{SurfaceTable}
 use Rattle.smol_blocks.specs.Jump.{jump_in}
 use Rattle.smol_blocks.specs.Panel.{Named, panel_in}
 use Rattle.smol_blocks.specs.Surface.{SurfaceSaid, acts, shows, leads, Known, means_face, nearer, led_by, rects_of, say, surface_line_in}
-use Rattle.smol_blocks.specs.SurfaceTable.{ArePaired, AddsPanel, AddsJump, IsReady, Holds, Reads}
+use Rattle.smol_blocks.specs.SurfaceTable.{AddsPanel, AddsJump, Holds, Reads}
 
 -- a value of which the fact holds
 is_ok_and : {T E : Type 0} (r : Result T E) (P : T → Type 0) → IsOkAnd r P → (v : T) × (r ≡ Ok v) × P v
@@ -98,20 +97,3 @@ jump_reads known line table new (Ok done) set refused = λ before h.
     (leads leading.0, ap (λ names. say leads (jump_in names (rects_of before) line)) (sym h.names) ∙ ap (λ rects. say leads (jump_in table.panels.names rects line)) (sym h.rects) ∙ ap (say leads) leading.1, leads_held table before leading.0 new leading.2 h)
 jump_reads known line table new (Err kind) set refused = λ before h.
     ap (λ names. say leads (jump_in names (rects_of before) line)) (sym h.names) ∙ ap (λ rects. say leads (jump_in table.panels.names rects line)) (sym h.rects) ∙ ap (say leads) (refused kind refl)
-
--- with a panel more there is an entry for each still
-paired_more : (old new : PanelTable) (panel : Named) → AddsPanel old new panel → ArePaired old → ArePaired new
-paired_more old new panel adds h =
-    let names = ap length adds.names ∙ length-append old.names (panel.name ∷ []) in
-    let rects = ap length adds.rects ∙ length-append old.rects.items (panel.rect ∷ []) in
-    let front = ap length adds.front_to ∙ length-append old.front_to.items (None ∷ []) in
-    let back = ap length adds.back_to ∙ length-append old.back_to.items (None ∷ []) in
-    let a = h.rects in
-    let b = h.front_to in
-    let c = h.back_to in record { rects = omega arith; front_to = omega arith; back_to = omega arith }
-
-pub panel_ready : {T E E' : Type 0} (table : SurfaceTable) (new : PanelTable) (species : ℕ) (result : Result T E) (rule : Result Named E') → IsReady table species → OnOk result (IsOkAnd rule (AddsPanel table.panels new)) → OnOk result (IsReady (record table { panels = new }) species)
-panel_ready table new species (Ok done) rule h added =
-    let panel = is_ok_and rule (AddsPanel table.panels new) added in
-    record { panels = paired_more table.panels new panel.0 panel.2 h.panels; front = h.front; back = h.back }
-panel_ready table new species (Err why) rule h added = tt

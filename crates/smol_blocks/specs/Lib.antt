@@ -5,6 +5,7 @@ pub mod Jump
 pub mod Surface
 pub mod SurfaceTable
 pub mod Compartment
+pub mod BlockName
 pub mod Blocks
 pub mod BlocksTable
 pub mod BlocksSound

@@ -1,8 +1,9 @@
 -- What the reader keeps of the lines of a surface's block. This is no part of what a text means.
-use Rattle.std.specs.Prelude.{◌≡◌, ℕ, List, [], ◌∷◌, ◌++◌, length, None, Result, Ok, Err, slice_index_or}
+use Rattle.std.specs.Prelude.{◌≡◌, ◌<◌, ℕ, List, [], ◌∷◌, ◌++◌, length, Option, None, IfSome, Result, Ok, Err, slice_index_or}
 use Rattle.smol_text.specs.Reading.{Stated}
 use Rattle.smol_types.specs.declared.fault.Kind.{Kind}
 use Rattle.smol_types.specs.declared.surface.Action.TheVariants.{Transmit}
+use Rattle.smol_types.specs.declared.surface.Face.{Face}
 use Rattle.smol_types.specs.declared.surface.Face.TheVariants.{Front, Back}
 use Rattle.smol_line.specs.declared.refusal.Refusal.{Refusal}
 use Rattle.smol_line.specs.declared.refusal.Refusal.TheVariants.{At, OutOfMemory}
@@ -12,11 +13,18 @@ use Rattle.smol_blocks.specs.declared.surface_table.SurfaceTable.{SurfaceTable}
 use Rattle.smol_blocks.specs.Panel.{Named}
 use Rattle.smol_blocks.specs.Surface.{SurfaceSaid, Known, names_of, rects_of, sides_of, acting_on, led_by, led_to, nearer}
 
--- there is an entry for each panel
+-- jumps lead to panels of these, if anywhere
+abbrev pub LeadWithin : ℕ → List (Option (ℕ × Face)) → Type 0
+LeadWithin count jumps = (panel : ℕ) → IfSome (slice_index_or jumps panel None) (λ to. to.0 < count)
+
+-- there is an entry for each panel, and jumps lead to panels that there are
 pub record ArePaired (table : PanelTable) : Type 0 where
   pub rects : length table.rects.items ≡ length table.names
+  pub sides : length table.sides.items ≡ length table.names
   pub front_to : length table.front_to.items ≡ length table.names
   pub back_to : length table.back_to.items ≡ length table.names
+  pub front_within : LeadWithin (length table.names) table.front_to.items
+  pub back_within : LeadWithin (length table.names) table.back_to.items
 
 -- a table has one panel more
 pub record AddsPanel (old new : PanelTable) (panel : Named) : Type 0 where

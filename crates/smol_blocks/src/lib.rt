@@ -3,8 +3,13 @@
 
 mod action;
 mod action_table;
+mod block_name;
 mod block_statement;
+#[cfg(test)]
+mod block_tests;
 mod blocks;
+mod close_surface;
+mod compartment;
 mod faces;
 mod jump;
 mod law;

@@ -1,5 +1,5 @@
 //! The panels of a surface, by the lines of its block so far.
-ghost use Rattle.std.specs.Prelude.{◌≡◌, ◌==◌, ◌&&◌, ◌<◌, ◌≤◌, ◌^◌, ◌++◌, ◌∷◌, [], ℕ, None, Some, Err, length, slice_index_or, OnOk, if◌then◌else◌};
+ghost use Rattle.std.specs.Prelude.{◌≡◌, ◌==◌, ◌&&◌, ◌<◌, ◌≤◌, ◌^◌, ◌+◌, ◌++◌, ◌∷◌, [], ℕ, None, Some, Err, length, slice_index_or, OnOk, if◌then◌else◌};
 ghost use Rattle.std.specs.Result.{IsOkAnd};
 ghost use Rattle.smol_types.specs.declared.fault.Kind.{Kind as TheKind};
 ghost use Rattle.smol_types.specs.Limits.{most_panels};
@@ -120,6 +120,9 @@ impl PanelTable {
         requires least { 1 ≤ dims }
         requires most { dims ≤ 3 }
         requires few { others ≤ most_panels }
+        requires paired { ArePaired self.old }
+        ensures few { OnOk result (others + length self.new.names ≤ most_panels) }
+        ensures paired { OnOk result (ArePaired self.new) }
         ensures added { OnOk result (IsOkAnd (panel_in dims others self.old.names line.now) (AddsPanel self.old self.new)) }
         ensures refused { (kind : TheKind) → result ≡ Err (At kind) → panel_in dims others self.old.names line.now ≡ Err kind }
     {

@@ -1,5 +1,5 @@
 //! What the lines of a surface's block give.
-ghost use Rattle.std.specs.Prelude.{◌≡◌, ◌≤◌, ◌^◌, [], length, IfOk, OnOk};
+ghost use Rattle.std.specs.Prelude.{◌≡◌, ◌+◌, ◌≤◌, [], length, IfOk, OnOk};
 ghost use Rattle.smol_types.specs.Limits.{most_panels, most_species};
 ghost use Rattle.smol_blocks.specs.declared.surface_statement.SurfaceStatement.TheVariants as statement;
 
@@ -40,8 +40,10 @@ impl SurfaceTable {
         others: usize,
         line: &StatedLine<'_>,
     ) -> Result<(), Refusal>
-        requires few { length species.now ≤ most_species }
+        requires species { length species.now ≤ most_species }
+        requires few { others + length self.old.panels.names ≤ most_panels }
         requires ready { IsReady self.old (length species.now) }
+        ensures few { OnOk result (others + length self.new.panels.names ≤ most_panels) }
         ensures reads { Reads (surface_line_in statement.Action (known_of dims species.now others)) line.now self.old self.new result }
         ensures ready { OnOk result (IsReady self.new (length species.now)) }
     {
@@ -60,8 +62,9 @@ impl SurfaceTable {
     ) -> Result<(), Refusal>
         requires least { 1 ≤ dims }
         requires most { dims ≤ 3 }
-        requires few { others ≤ most_panels }
+        requires few { others + length self.old.panels.names ≤ most_panels }
         requires ready { IsReady self.old (length species.now) }
+        ensures few { OnOk result (others + length self.new.panels.names ≤ most_panels) }
         ensures reads { Reads (surface_line_in statement.Panel (known_of dims species.now others)) line.now self.old self.new result }
         ensures ready { OnOk result (IsReady self.new (length species.now)) }
     {
@@ -75,8 +78,9 @@ impl SurfaceTable {
         others: usize,
         line: &StatedLine<'_>,
     ) -> Result<(), Refusal>
-        requires few { length self.old.panels.names ≤ 2 ^ 16 }
+        requires few { others + length self.old.panels.names ≤ most_panels }
         requires ready { IsReady self.old (length species.now) }
+        ensures few { OnOk result (others + length self.new.panels.names ≤ most_panels) }
         ensures reads { Reads (surface_line_in statement.Jump (known_of dims species.now others)) line.now self.old self.new result }
         ensures ready { OnOk result (IsReady self.new (length species.now)) }
     {
@@ -97,9 +101,9 @@ impl SurfaceTable {
         requires least { 1 ≤ dims }
         requires most { dims ≤ 3 }
         requires species { length species.now ≤ most_species }
-        requires others { others ≤ most_panels }
-        requires panels { length self.old.panels.names ≤ 2 ^ 16 }
+        requires few { others + length self.old.panels.names ≤ most_panels }
         requires ready { IsReady self.old (length species.now) }
+        ensures few { OnOk result (others + length self.new.panels.names ≤ most_panels) }
         ensures reads { Reads (surface_line_in statement (known_of dims species.now others)) line.now self.old self.new result }
         ensures ready { OnOk result (IsReady self.new (length species.now)) }
     {

@@ -11,8 +11,7 @@ use std::alloc::Global;
 use std::test::Fail;
 
 // How many axes are in use, lines of a block where there are the species A and B, and the fault of the last line.
-const BLOCKS: [(u8, &str, Option<Kind>); 36] = [
-    // `action`.
+const ACTIONS: [(u8, &str, Option<Kind>); 10] = [
     (3, "action front A reflect", None),
     (3, "action A(soln) back t", None),
     (3, "action both all jump", None),
@@ -23,7 +22,9 @@ const BLOCKS: [(u8, &str, Option<Kind>); 36] = [
     (3, "action front C x", Some(Kind::UnknownName)),
     (3, "action A(front) both x", Some(Kind::NotInProfile)),
     (3, "action all both R", Some(Kind::BadAction)),
-    // `panel`.
+];
+
+const PANELS: [(u8, &str, Option<Kind>); 9] = [
     (3, "panel", Some(Kind::WrongWordCount)),
     (3, "panel disk", Some(Kind::NotInProfile)),
     (3, "panel rect +0 0 0 0 1", Some(Kind::WrongWordCount)),
@@ -33,6 +34,9 @@ const BLOCKS: [(u8, &str, Option<Kind>); 36] = [
     (3, "panel rect +X 0 0 0 1 1", Some(Kind::BadFace)),
     (2, "panel rect +2 a 0 1", Some(Kind::OutOfRange)),
     (1, "panel rect +0 5", None),
+];
+
+const NUMBERS: [(u8, &str, Option<Kind>); 8] = [
     (3, "panel rect +x 0 0 a 0 1", Some(Kind::NotNumber)),
     (3, "panel rect +x 0 0 0 0 1", Some(Kind::OutOfRange)),
     (
@@ -57,7 +61,9 @@ const BLOCKS: [(u8, &str, Option<Kind>); 36] = [
         "panel rect +x 0 0 1\npanel rect +x 0 0 1 rect0",
         Some(Kind::RepeatedName),
     ),
-    // `jump`.
+];
+
+const JUMPS: [(u8, &str, Option<Kind>); 9] = [
     (
         1,
         "panel rect +x 0\npanel rect -x 5\njump rect0 front -> rect1 back",
@@ -101,7 +107,7 @@ const BLOCKS: [(u8, &str, Option<Kind>); 36] = [
     ),
 ];
 
-fn statement(line: &StatedLine<'_>) -> SurfaceStatement {
+pub fn surface_statement(line: &StatedLine<'_>) -> SurfaceStatement {
     if spells(word_at(line, 0), "action") {
         SurfaceStatement::Action
     } else if spells(word_at(line, 0), "panel") {
@@ -111,7 +117,7 @@ fn statement(line: &StatedLine<'_>) -> SurfaceStatement {
     }
 }
 
-fn two_species(alloc: Global) -> Result<NameSet, Refusal> {
+pub fn two_species(alloc: Global) -> Result<NameSet, Refusal> {
     let mut species = NameSet::new(alloc);
     let first = new_name_in(&species, b"A")?;
     species.add(alloc, first)?;
@@ -120,7 +126,7 @@ fn two_species(alloc: Global) -> Result<NameSet, Refusal> {
     Ok(species)
 }
 
-fn text_of(alloc: Global, lines: &str) -> Result<Text, TextFault> {
+pub fn text_of(alloc: Global, lines: &str) -> Result<Text, TextFault> {
     if lines.len() > 4_194_304 {
         return Err(TextFault::OutOfMemory);
     }
@@ -141,22 +147,51 @@ fn read_block(
     }
     let mut table = SurfaceTable::new(alloc, species.len())?;
     for k in 0..text.len() {
-        if table.panels.names.len() > 4096 {
-            return Err(Refusal::OutOfMemory);
-        }
         let line = text.line(k);
-        table.read(alloc, statement(&line), dims, species, 0, &line)?;
+        table.read(alloc, surface_statement(&line), dims, species, 0, &line)?;
     }
     Ok(table)
 }
 
+// The fault of lines of a block, if there is one.
+fn refused(alloc: Global, dims: u8, lines: &str) -> Result<Option<Refusal>, Fail> {
+    let species = two_species(alloc)?;
+    let text = text_of(alloc, lines)?;
+    Ok(read_block(alloc, dims.clamp(1, 3), &species, &text).err())
+}
+
 #[test]
-fn lines_of_blocks_are_judged(rt: HostRuntime) -> Result<(), Fail> {
-    let species = two_species(rt.alloc())?;
-    for (dims, lines, kind) in BLOCKS {
-        let text = text_of(rt.alloc(), lines)?;
-        let refused = read_block(rt.alloc(), dims.clamp(1, 3), &species, &text).err();
-        assert_eq!(rt; refused, kind.map(Refusal::At), "{lines}");
+fn actions_are_judged(rt: HostRuntime) -> Result<(), Fail> {
+    for (dims, lines, kind) in ACTIONS {
+        let fault = refused(rt.alloc(), dims, lines)?;
+        assert_eq!(rt; fault, kind.map(Refusal::At), "{lines}");
+    }
+    Ok(())
+}
+
+#[test]
+fn panels_are_judged(rt: HostRuntime) -> Result<(), Fail> {
+    for (dims, lines, kind) in PANELS {
+        let fault = refused(rt.alloc(), dims, lines)?;
+        assert_eq!(rt; fault, kind.map(Refusal::At), "{lines}");
+    }
+    Ok(())
+}
+
+#[test]
+fn numbers_and_names_of_panels_are_judged(rt: HostRuntime) -> Result<(), Fail> {
+    for (dims, lines, kind) in NUMBERS {
+        let fault = refused(rt.alloc(), dims, lines)?;
+        assert_eq!(rt; fault, kind.map(Refusal::At), "{lines}");
+    }
+    Ok(())
+}
+
+#[test]
+fn jumps_are_judged(rt: HostRuntime) -> Result<(), Fail> {
+    for (dims, lines, kind) in JUMPS {
+        let fault = refused(rt.alloc(), dims, lines)?;
+        assert_eq!(rt; fault, kind.map(Refusal::At), "{lines}");
     }
     Ok(())
 }

@@ -1,14 +1,19 @@
 -- What follows from what a step answers.
 use Rattle.std.proofs.Common.{◌+◌, ◌-◌, ◌≤◌, ℕ, Result, Ok, Err}
 use Rattle.std.specs.Prelude.{IfOk}
+use Rattle.smol_geom.specs.declared.cuboid.Cuboid.{Cuboid}
 use Rattle.smol_types.specs.declared.draft.Draft.{Draft}
 use Rattle.smol_types.specs.declared.state.State.{State}
 use Rattle.smol_types.specs.Limits.{last_serial}
 use Rattle.smol_types.specs.Sound.{IsSound}
 use Rattle.smol_types.specs.State.{Fits}
 use Rattle.smol_types.specs.Steps.{last_step}
+use Rattle.smol_meaning.specs.Seen.{IsClosedBox}
 use Rattle.smol_meaning.specs.Step.{next_state}
 use Rattle.smol_meaning.proofs.Stepping.{next_fits, next_rises}
+use Rattle.smol_confined.specs.Boxes.{IsIn, IsInOrGone}
+use Rattle.smol_confined.specs.Laws.{IsBoxedStep}
+use Rattle.smol_confined.proofs.Safe.{step_is_confined}
 use Rattle.smol_step.specs.declared.step_fault.StepFault.{StepFault}
 use Rattle.smol_step.specs.declared.step_fault.StepFault.TheVariants.{TooManyMolecules, OutOfMemory}
 use Rattle.smol_step.specs.Advance.{IsAnswer}
@@ -23,3 +28,13 @@ module _ (draft : Draft) (seed : ℕ) (state : State) (sound : IsSound draft) (f
   answer_rises (Ok next) is = next_rises draft seed state next sound fits more is
   answer_rises (Err (TooManyMolecules found)) is = tt
   answer_rises (Err OutOfMemory) is = tt
+
+  -- a step from the state in a closed box
+  pub boxed : (box : Cuboid) → IsClosedBox draft box → IsBoxedStep draft state box
+  boxed box closed = record { sound = sound; fits = fits; left = more; closed = closed }
+
+  pub answer_holds : (answer : Result State StepFault) → IsAnswer (next_state draft seed state) answer
+      → IfOk answer (λ (after : State). (box : Cuboid) (serial : ℕ) → IsClosedBox draft box → IsIn box serial state → IsInOrGone box serial after)
+  answer_holds (Ok next) is = λ box serial closed inside. step_is_confined draft seed state box (boxed box closed) next serial is inside
+  answer_holds (Err (TooManyMolecules found)) is = tt
+  answer_holds (Err OutOfMemory) is = tt

@@ -1,5 +1,5 @@
 -- A list that is rewritten in place: what stays is moved to its front.
-use Rattle.std.proofs.Common.{◌≡◌, ℕ, zero, suc, ◌+◌, ◌<◌, ◌≤◌, Bool, true, false, cond, List, [], ◌∷◌, ◌++◌, length, get_or, set, take, drop, Option, Some, None, refl, ap, sym, ◌∙◌, subst, add-one, arith}
+use Rattle.std.proofs.Common.{◌≡◌, ℕ, zero, suc, ◌+◌, ◌<◌, ◌≤◌, Bool, true, false, cond, List, [], ◌∷◌, ◌++◌, length, get_or, map, set, take, drop, Option, Some, None, refl, ap, sym, ◌∙◌, subst, add-one, arith}
 use Rattle.std.specs.List.{cons_option, filter_map, items_where_true}
 use Rattle.std.proofs.lemmas.List.{append-nil, drop-drop, drop-set-lt, get_or-drop, get_or_default, length-set, take_more, take_more_set}
 use Rattle.std.proofs.lemmas.List.Elements.{filter_map-append}
@@ -97,3 +97,8 @@ picked_gone picks now (x ∷ xs) left i some within pick so_far =
     ∙ ap (λ here. items_where_true (take i picks) (take i old) ++ cond here (item ∷ []) []) pick
     ∙ append-nil (items_where_true (take i picks) (take i old)) in
     subst (λ front. InPlace front now old left (i + 1)) (sym front) (in_place_gone (items_where_true (take i picks) (take i old)) now old left i so_far)
+
+-- what is chosen of one item more
+pub chosen_more : {X Y : Type 0} (chosen : X → Y) (front : List X) (x : X) → map chosen (front ++ x ∷ []) ≡ map chosen front ++ chosen x ∷ []
+chosen_more chosen [] x = refl
+chosen_more chosen (y ∷ front) x = ap (λ rest. chosen y ∷ rest) (chosen_more chosen front x)

@@ -1,13 +1,18 @@
 //! The state after a step.
-ghost use Rattle.std.specs.Prelude.{◌≡◌, ◌+◌, ◌-◌, ◌^◌, ◌≤◌, All, IfOk, length, map};
+ghost use Rattle.std.specs.Prelude.{◌≡◌, ℕ, ◌+◌, ◌-◌, ◌^◌, ◌≤◌, All, IfOk, length, map};
+ghost use Rattle.smol_geom.specs.declared.cuboid.Cuboid.{Cuboid};
 ghost use Rattle.smol_types.specs.Limits.{last_serial};
 ghost use Rattle.smol_types.specs.Sound.{IsSound};
 ghost use Rattle.smol_types.specs.State.{Ascend, Fits};
 ghost use Rattle.smol_types.specs.Steps.{last_step};
 ghost use Rattle.smol_pairs.specs.Moved.{AreMoved};
+ghost use Rattle.smol_meaning.specs.Events.{lone_reaction};
 ghost use Rattle.smol_meaning.specs.Placed.{IsPlaced};
+ghost use Rattle.smol_meaning.specs.Seen.{IsClosedBox};
 ghost use Rattle.smol_meaning.specs.Step.{events_of, moves_of, next_state, reacted, reactions_of_two, remains, within_limit};
 ghost use Rattle.smol_meaning.specs.Ways.{CrossesNoFace, StaysInBoxes};
+ghost use Rattle.smol_confined.specs.Boxes.{IsIn, IsInOrGone};
+ghost use Rattle.smol_confined.specs.Laws.{LoneProductsAreConfined, PairsAreConfined};
 ghost use Rattle.smol_step.specs.Advance.{IsAnswer};
 
 use crate::alone::react_alone;
@@ -35,6 +40,7 @@ fn react<R: Threads + Sync, G: Gate + Sync>(
     seed: u64,
     k: u32,
     mols: &[Mol],
+    reactions: &[Option<u16>],
     workers: u32,
     gate: &G,
 ) -> Result<Reacting, AllocError>
@@ -42,12 +48,13 @@ fn react<R: Threads + Sync, G: Gate + Sync>(
     requires most { workers ≤ 16 }
     requires step { k ≤ 4000000 }
     requires moved { AreMoved config.now mols.now }
+    requires reactions { reactions.now ≡ map (lone_reaction config.now seed k) mols.now }
     ensures events { IfOk result (λ r. r.events.items ≡ events_of config.now seed k mols.now) }
     ensures free { IfOk result
         (λ r. r.free.items ≡ map (remains config.now seed k (reactions_of_two config.now seed k mols.now)) mols.now) }
 {
     let mut streams = Streams::of_seed(seed);
-    let mut reacting = react_alone(alloc, config, &mut streams, k, mols)?;
+    let mut reacting = react_alone(alloc, config, &mut streams, k, mols, reactions)?;
     let pairs = candidates(rt, alloc, config, mols, &reacting.free, seed, k)?;
     let copy = Vec::from_slice(alloc, &pairs)?;
     let fired = match_pairs(rt, alloc, copy, workers, gate)?;
@@ -64,6 +71,7 @@ fn reacted<R: Threads + Sync, G: Gate + Sync>(
     seed: u64,
     k: u32,
     mols: Vec<Mol>,
+    reactions: &[Option<u16>],
     next: u64,
     workers: u32,
     gate: &G,
@@ -76,11 +84,12 @@ fn reacted<R: Threads + Sync, G: Gate + Sync>(
     requires count { length mols.items ≤ 1000000 }
     requires serials { Ascend 0 last_serial mols.items }
     requires placed { All (IsPlaced config.now (2 ^ 57)) mols.items }
+    requires reactions { reactions.now ≡ map (lone_reaction config.now seed k) mols.items }
     requires next { next ≤ last_serial }
     ensures { IfOk result (λ state. state ≡ reacted config.now seed k mols.items next) }
 {
     let mut mols = mols;
-    let reacting = react(rt, alloc, config, seed, k, &mols, workers, gate)?;
+    let reacting = react(rt, alloc, config, seed, k, &mols, reactions, workers, gate)?;
     let births = births(alloc, config, &reacting.events, next)?;
     keep_free(&mut mols, &reacting.free);
     add_newborn(panels, &births, &mut mols)?;
@@ -123,15 +132,21 @@ pub fn advance<R: Threads + Sync, G: Gate + Sync>(
     ensures serials { IfOk result (λ after. after.next ≤ state.next + 16000000) }
     ensures no_way_crosses { All (CrossesNoFace config.now) (moves_of config.now seed state) }
     ensures ways_are_confined { All (StaysInBoxes config.now) (moves_of config.now seed state) }
+    ensures boxes_hold { IfOk result (λ after. (box : Cuboid) (serial : ℕ) → IsClosedBox config.now box → IsIn box serial state → IsInOrGone box serial after) }
+    ensures products_stay { (box : Cuboid) → IsClosedBox config.now box → LoneProductsAreConfined config.now seed state box }
+    ensures pairs_stay { (box : Cuboid) → IsClosedBox config.now box → PairsAreConfined config.now seed state box }
 {
     let most = config.max_mol();
     let State { step, mols, next } = state;
     let k = step + 1;
     let workers = workers.clamp(1, 16);
     let mut mols = mols.into_vec();
-    diffuse(config, panels, &mut Streams::of_seed(seed), k, &mut mols);
+    let mut streams = Streams::of_seed(seed);
+    let Ok(reactions) = diffuse(alloc, config, panels, &mut streams, k, &mut mols) else {
+        return Err(StepFault::OutOfMemory);
+    };
     match reacted(
-        rt, alloc, config, panels, seed, k, mols, next, workers, gate,
+        rt, alloc, config, panels, seed, k, mols, &reactions, next, workers, gate,
     ) {
         Ok(state) => within_limit(most, state),
         Err(AllocError) => Err(StepFault::OutOfMemory),

@@ -1,0 +1,11 @@
+pub mod Parts
+pub mod Moving
+pub mod Making
+pub mod Safe
+pub mod Commanding
+pub mod Linked
+pub mod First
+pub mod Leaving
+pub mod Barring
+pub mod Pairing
+pub mod Filling
