@@ -1,68 +1,46 @@
 -- What holds so far is kept by what each line says.
-use Rattle.std.proofs.Common.{◌≡◌, ◌+◌, ◌<◌, ◌≤◌, ◌&&◌, ◌||◌, Bool, true, false, ℕ, zero, suc, ℤ, pos, ◌<ℤ◌, nat_le, List, [], ◌∷◌, ◌++◌, length, All, Option, None, Some, IfSome, IsSomeAnd, unsigned_abs, arith, refl, subst}
+use Rattle.std.proofs.Common.{◌≡◌, ◌+◌, ◌<◌, ◌≤◌, ◌&&◌, ◌||◌, Bool, true, false, ℕ, zero, suc, ℤ, pos, ◌<ℤ◌, nat_le, List, [], ◌∷◌, ◌++◌, length, All, Option, None, Some, IfSome, IsSomeAnd, unsigned_abs, arith, refl, sym, subst}
 use Rattle.std.proofs.lemmas.Bool.Decides.{nat_tests}
 use Rattle.std.proofs.lemmas.List.{length-append}
 use Rattle.std.proofs.lemmas.List.Elements.{All-push, All-weaker}
-use Rattle.smol_types.specs.declared.command.Act.{Act}
-use Rattle.smol_types.specs.declared.command.Act.TheVariants as act
 use Rattle.smol_types.specs.declared.command.Command.{Command}
-use Rattle.smol_types.specs.declared.command.Test.{Test}
-use Rattle.smol_types.specs.declared.command.Test.TheVariants as test
 use Rattle.smol_types.specs.declared.placing.Placing.{Placing}
 use Rattle.smol_types.specs.declared.placing.Placing.TheVariants as placing
 use Rattle.smol_types.specs.declared.wall.Wall.{Wall}
-use Rattle.smol_types.specs.Commands.{AreSpecies, IsTest, IsAct, IsCommand}
+use Rattle.smol_types.specs.Commands.{IsCommand}
 use Rattle.smol_types.specs.Placings.{IsPlacing}
+use Rattle.smol_line.specs.declared.axes.Axes.{Axes}
+use Rattle.smol_line.specs.declared.axes.Bounds.{Bounds}
+use Rattle.smol_line.specs.Axes.{AreAxes, AreSettled, IsBounded, are_walled, is_walled, walls_of}
 use Rattle.smol_line.specs.declared.species_word.Chosen.{Chosen}
+use Rattle.smol_blocks.specs.Blocks.{BlockSaid, compartments_of}
+use Rattle.smol_blocks.specs.BlocksSound.{AreBlocks}
+use Rattle.smol_blocks.proofs.SoundBlocks.{axes_given}
+use Rattle.smol_cmd.proofs.Sound.{commands_stay_sound}
 use Rattle.smol_reactions.specs.ReactionSaid.{ReactionSaid}
 use Rattle.smol_reactions.specs.Sound.{AreReactions}
 use Rattle.smol_reactions.proofs.SoundSaid.{dims_keep, species_keep}
 use Rattle.smol_config.specs.declared.motion.Motion.{Motion}
-use Rattle.smol_config.specs.declared.walls.Bounds.{Bounds}
-use Rattle.smol_config.specs.Said.{Said, passed_over, axes, names, moves, starts, stops, steps, limits, seeds, walls, places, of_reactions, performs}
-use Rattle.smol_config.specs.Dim.{dims_of}
+use Rattle.smol_config.specs.Said.{Said, passed_over, axes, names, moves, starts, stops, steps, limits, seeds, walls, places, of_reactions, of_blocks, writes, performs}
+use Rattle.smol_config.specs.Axes.{axes_of, bounds_of, dims_of}
 use Rattle.smol_config.specs.Species.{species_of}
-use Rattle.smol_config.specs.Walls.{bounds_of, is_walled, are_walled}
+use Rattle.smol_config.specs.Boundaries.{bounds_at}
 use Rattle.smol_config.specs.Mol.{placings_of}
 use Rattle.smol_config.specs.Reactions.{reactions_said}
-use Rattle.smol_config.specs.Cmd.{commands_of}
-use Rattle.smol_config.specs.Content.{walls_in}
-use Rattle.smol_config.specs.SoFar.{IsBounded, IsSettled, IsSoFar}
+use Rattle.smol_config.specs.Blocks.{blocks_said, compartment_count}
+use Rattle.smol_config.specs.Commands.{commands_of, outputs_of}
+use Rattle.smol_config.specs.SoFar.{IsSoFar}
 
--- with more species each number is one of them still
-AreSpecies-more : (least n m : ℕ) (who : List ℕ) → n ≤ m → AreSpecies least n who → AreSpecies least m who
-AreSpecies-more least n m [] more h = tt
-AreSpecies-more least n m (species ∷ who) more h = let below = h.1 in (h.0, omega arith, AreSpecies-more (species + 1) n m who more h.2)
+-- with more species and compartments each number is one of them still
+IsPlacing-more : (n m compartments more_compartments : ℕ) (around : List Wall) → n ≤ m → compartments ≤ more_compartments → (one : Placing) → IsPlacing n compartments around one → IsPlacing m more_compartments around one
+IsPlacing-more n m compartments more_compartments around more further (placing.Mol count species at) h = let below = h.1 in (h.0, omega arith, h.2, h.3)
+IsPlacing-more n m compartments more_compartments around more further (placing.InCompartment line count species compartment) h =
+    let below = h.1 in let within = h.2 in (h.0, omega arith, omega arith)
 
-IsTest-more : (n m : ℕ) → n ≤ m → (one : Test) → IsTest n one → IsTest m one
-IsTest-more n m more (test.IfNo who) h = AreSpecies-more 0 n m who more h
-IsTest-more n m more (test.IfLess who count) h = (AreSpecies-more 0 n m who more h.0, h.1)
-IsTest-more n m more (test.IfMore who count) h = (AreSpecies-more 0 n m who more h.0, h.1)
-
-IsAct-more : (n m compartments outputs : ℕ) (around : List Wall) (one : Act) → n ≤ m → IsAct n compartments outputs around one → IsAct m compartments outputs around one
-IsAct-more n m compartments outputs around (act.CountHeader out) more h = h
-IsAct-more n m compartments outputs around (act.Count out) more h = h
-IsAct-more n m compartments outputs around (act.CountIn compartment out) more h = h
-IsAct-more n m compartments outputs around (act.List out) more h = h
-IsAct-more n m compartments outputs around (act.Positions who out) more h = (AreSpecies-more 0 n m who more h.0, h.1)
-IsAct-more n m compartments outputs around (act.Echo out text) more h = h
-IsAct-more n m compartments outputs around (act.Kill who) more h = AreSpecies-more 0 n m who more h
-IsAct-more n m compartments outputs around (act.KillProb who p) more h = (AreSpecies-more 0 n m who more h.0, h.1)
-IsAct-more n m compartments outputs around (act.Replace who to p) more h = let below = h.1 in (AreSpecies-more 0 n m who more h.0, omega arith, h.2)
-IsAct-more n m compartments outputs around (act.PointSource species count place) more h = let below = h.0 in (omega arith, h.1, h.2, h.3)
-IsAct-more n m compartments outputs around act.Stop more h = h
-
-IsCommand-more : (n m compartments outputs : ℕ) (around : List Wall) → n ≤ m → (command : Command) → IsCommand n compartments outputs around command → IsCommand m compartments outputs around command
-IsCommand-more n m compartments outputs around more command h = record {
-  timing = h.timing;
-  test_count = h.test_count;
-  tests = All-weaker (IsTest n) (IsTest m) (IsTest-more n m more) command.tests h.tests;
-  does = IsAct-more n m compartments outputs around command.act more h.does;
-}
-
-IsPlacing-more : (n m compartments : ℕ) (around : List Wall) → n ≤ m → (one : Placing) → IsPlacing n compartments around one → IsPlacing m compartments around one
-IsPlacing-more n m compartments around more (placing.Mol count species at) h = let below = h.1 in (h.0, omega arith, h.2, h.3)
-IsPlacing-more n m compartments around more (placing.InCompartment line count species compartment) h = let below = h.1 in (h.0, omega arith, h.2)
+commands_more : (species compartments outputs more_species more_compartments more_outputs : ℕ) (around : List Wall) → species ≤ more_species → compartments ≤ more_compartments → outputs ≤ more_outputs → (all : List Command) → All (IsCommand species compartments outputs around) all → All (IsCommand more_species more_compartments more_outputs around) all
+commands_more species compartments outputs more_species more_compartments more_outputs around a b c all h =
+    All-weaker (IsCommand species compartments outputs around) (IsCommand more_species more_compartments more_outputs around)
+    (λ one sound. commands_stay_sound species compartments outputs more_species more_compartments more_outputs around one sound a b c) all h
 
 -- without axes there are no walls
 unbounded : (axis : ℕ) (dims : Option ℕ) (bounds : Option Bounds) (P : Bounds → Type 0) → dims ≡ None → IfSome bounds (IsBounded dims axis) → IfSome bounds P
@@ -72,9 +50,9 @@ unbounded axis dims (Some bounds) P none h =
     absurd (subst Q none h.in_use)
 
 -- and nothing stands between walls
-unsettled : (before : List Said) → dims_of before ≡ None → IsSettled before → ⊥
-unsettled before none h =
-    let Q : Option ℕ → Type 0 = λ dims. IsSomeAnd dims (λ dims. are_walled dims before ≡ true) in
+unsettled : (known : Axes) → known.dims ≡ None → AreSettled known → ⊥
+unsettled known none h =
+    let Q : Option ℕ → Type 0 = λ dims. IsSomeAnd dims (λ dims. are_walled dims known ≡ true) in
     subst Q none h
 
 -- each of no things
@@ -84,36 +62,40 @@ all_of_none P xs none = λ k d within. absurd (none (omega arith))
 -- a line that is passed over, and so on: a lemma for each thing that a line may say
 pub passed_over_kept : (before : List Said) → IsSoFar before → IsSoFar (passed_over ∷ before)
 passed_over_kept before h = record {
-  dims = h.dims;
+  axes = h.axes;
   species = h.species;
   start = h.start;
   stop = h.stop;
   step = h.step;
   max_mol = h.max_mol;
-  x = h.x;
-  y = h.y;
-  z = h.z;
   settled = h.settled;
   placings = h.placings;
   reactions = h.reactions;
+  blocks = h.blocks;
+  outputs = h.outputs;
   command_count = h.command_count;
   commands = h.commands;
 }
 
 pub axes_kept : (before : List Said) (dims : ℕ) → dims_of before ≡ None → 1 ≤ dims → dims ≤ 3 → IsSoFar before → IsSoFar (axes dims ∷ before)
+unfolding walls_of
 axes_kept before dims new least most h = record {
-  dims = (least, most);
+  axes = record {
+    dims = (least, most);
+    x = unbounded 0 (dims_of before) (bounds_of 0 before) _ new h.axes.x;
+    y = unbounded 1 (dims_of before) (bounds_of 1 before) _ new h.axes.y;
+    z = unbounded 2 (dims_of before) (bounds_of 2 before) _ new h.axes.z;
+  };
   species = h.species;
   start = h.start;
   stop = h.stop;
   step = h.step;
   max_mol = h.max_mol;
-  x = unbounded 0 (dims_of before) (bounds_of 0 before) _ new h.x;
-  y = unbounded 1 (dims_of before) (bounds_of 1 before) _ new h.y;
-  z = unbounded 2 (dims_of before) (bounds_of 2 before) _ new h.z;
-  settled = λ some. absurd (unsettled before new (h.settled some));
+  settled = λ some. absurd (unsettled (axes_of before) new (h.settled some));
   placings = h.placings;
   reactions = dims_keep (Some dims) (length (species_of before)) (reactions_said before) (subst (λ (given : Option ℕ). AreReactions given (length (species_of before)) (reactions_said before)) new h.reactions);
+  blocks = axes_given dims (blocks_said before) (subst (λ (given : Option ℕ). AreBlocks given (blocks_said before)) new h.blocks);
+  outputs = h.outputs;
   command_count = h.command_count;
   commands = h.commands;
 }
@@ -123,184 +105,213 @@ names_kept before more few h =
     let count : length (species_of before ++ more) ≡ length (species_of before) + length more = length-append (species_of before) more in
     let grown : length (species_of before) ≤ length (species_of before ++ more) = omega arith in
     record {
-      dims = h.dims;
+      axes = h.axes;
       species = omega arith;
       start = h.start;
       stop = h.stop;
       step = h.step;
       max_mol = h.max_mol;
-      x = h.x;
-      y = h.y;
-      z = h.z;
       settled = h.settled;
-      placings = All-weaker _ _ (IsPlacing-more (length (species_of before)) (length (species_of before ++ more)) 0 (walls_in before) grown) (placings_of before) h.placings;
+      placings = All-weaker _ _ (IsPlacing-more (length (species_of before)) (length (species_of before ++ more)) (compartment_count before) (compartment_count before) (walls_of (axes_of before)) grown (omega arith)) (placings_of before) h.placings;
       reactions = species_keep (dims_of before) (length (species_of before)) (length (species_of before ++ more)) (reactions_said before) grown h.reactions;
+      blocks = h.blocks;
+      outputs = h.outputs;
       command_count = h.command_count;
-      commands = All-weaker _ _ (IsCommand-more (length (species_of before)) (length (species_of before ++ more)) 0 0 (walls_in before) grown) (commands_of before) h.commands;
+      commands = commands_more (length (species_of before)) (compartment_count before) (length (outputs_of before)) (length (species_of before ++ more)) (compartment_count before) (length (outputs_of before)) (walls_of (axes_of before)) grown (omega arith) (omega arith) (commands_of before) h.commands;
     }
 
 pub moves_kept : (before : List Said) (chosen : Chosen) (motion : Motion) → IsSoFar before → IsSoFar (moves chosen motion ∷ before)
 moves_kept before chosen motion h = record {
-  dims = h.dims;
+  axes = h.axes;
   species = h.species;
   start = h.start;
   stop = h.stop;
   step = h.step;
   max_mol = h.max_mol;
-  x = h.x;
-  y = h.y;
-  z = h.z;
   settled = h.settled;
   placings = h.placings;
   reactions = h.reactions;
+  blocks = h.blocks;
+  outputs = h.outputs;
   command_count = h.command_count;
   commands = h.commands;
 }
 
 pub starts_kept : (before : List Said) (time : ℤ) → unsigned_abs time ≤ 1000000000000000000 → IsSoFar before → IsSoFar (starts time ∷ before)
 starts_kept before time small h = record {
-  dims = h.dims;
+  axes = h.axes;
   species = h.species;
   start = small;
   stop = h.stop;
   step = h.step;
   max_mol = h.max_mol;
-  x = h.x;
-  y = h.y;
-  z = h.z;
   settled = h.settled;
   placings = h.placings;
   reactions = h.reactions;
+  blocks = h.blocks;
+  outputs = h.outputs;
   command_count = h.command_count;
   commands = h.commands;
 }
 
 pub stops_kept : (before : List Said) (time : ℤ) → unsigned_abs time ≤ 1000000000000000000 → IsSoFar before → IsSoFar (stops time ∷ before)
 stops_kept before time small h = record {
-  dims = h.dims;
+  axes = h.axes;
   species = h.species;
   start = h.start;
   stop = small;
   step = h.step;
   max_mol = h.max_mol;
-  x = h.x;
-  y = h.y;
-  z = h.z;
   settled = h.settled;
   placings = h.placings;
   reactions = h.reactions;
+  blocks = h.blocks;
+  outputs = h.outputs;
   command_count = h.command_count;
   commands = h.commands;
 }
 
 pub steps_kept : (before : List Said) (time : ℤ) → unsigned_abs time ≤ 1000000000000000000 → pos 0 <ℤ time → IsSoFar before → IsSoFar (steps time ∷ before)
 steps_kept before time small above h = record {
-  dims = h.dims;
+  axes = h.axes;
   species = h.species;
   start = h.start;
   stop = h.stop;
   step = (small, above);
   max_mol = h.max_mol;
-  x = h.x;
-  y = h.y;
-  z = h.z;
   settled = h.settled;
   placings = h.placings;
   reactions = h.reactions;
+  blocks = h.blocks;
+  outputs = h.outputs;
   command_count = h.command_count;
   commands = h.commands;
 }
 
 pub limits_kept : (before : List Said) (count : ℕ) → 1 ≤ count → count ≤ 1000000 → IsSoFar before → IsSoFar (limits count ∷ before)
 limits_kept before count least most h = record {
-  dims = h.dims;
+  axes = h.axes;
   species = h.species;
   start = h.start;
   stop = h.stop;
   step = h.step;
   max_mol = (least, most);
-  x = h.x;
-  y = h.y;
-  z = h.z;
   settled = h.settled;
   placings = h.placings;
   reactions = h.reactions;
+  blocks = h.blocks;
+  outputs = h.outputs;
   command_count = h.command_count;
   commands = h.commands;
 }
 
 pub seeds_kept : (before : List Said) (seed : ℕ) → IsSoFar before → IsSoFar (seeds seed ∷ before)
 seeds_kept before seed h = record {
-  dims = h.dims;
+  axes = h.axes;
   species = h.species;
   start = h.start;
   stop = h.stop;
   step = h.step;
   max_mol = h.max_mol;
-  x = h.x;
-  y = h.y;
-  z = h.z;
   settled = h.settled;
   placings = h.placings;
   reactions = h.reactions;
+  blocks = h.blocks;
+  outputs = h.outputs;
   command_count = h.command_count;
   commands = h.commands;
 }
 
 pub of_reactions_kept : (before : List Said) (said : ReactionSaid) → AreReactions (dims_of before) (length (species_of before)) (said ∷ reactions_said before) → IsSoFar before → IsSoFar (of_reactions said ∷ before)
 of_reactions_kept before said sound h = record {
-  dims = h.dims;
+  axes = h.axes;
   species = h.species;
   start = h.start;
   stop = h.stop;
   step = h.step;
   max_mol = h.max_mol;
-  x = h.x;
-  y = h.y;
-  z = h.z;
   settled = h.settled;
   placings = h.placings;
   reactions = sound;
+  blocks = h.blocks;
+  outputs = h.outputs;
   command_count = h.command_count;
   commands = h.commands;
 }
 
-pub places_kept : (before : List Said) (one : Placing) → IsSettled before → IsPlacing (length (species_of before)) 0 (walls_in before) one → IsSoFar before → IsSoFar (places one ∷ before)
-places_kept before one settled is h = record {
-  dims = h.dims;
-  species = h.species;
-  start = h.start;
-  stop = h.stop;
-  step = h.step;
-  max_mol = h.max_mol;
-  x = h.x;
-  y = h.y;
-  z = h.z;
-  settled = λ some. settled;
-  placings = All-push (IsPlacing (length (species_of before)) 0 (walls_in before)) (placings_of before) one h.placings is;
-  reactions = h.reactions;
-  command_count = h.command_count;
-  commands = h.commands;
-}
-
-pub performs_kept : (before : List Said) (command : Command) → IsSettled before → length (commands_of before) < 256 → IsCommand (length (species_of before)) 0 0 (walls_in before) command → IsSoFar before → IsSoFar (performs command ∷ before)
-performs_kept before command settled few is h =
-    let count = length-append (commands_of before) (command ∷ []) in
+pub of_blocks_kept : (before : List Said) (said : BlockSaid) → length (compartments_of (blocks_said before)) ≤ length (compartments_of (said ∷ blocks_said before)) → AreBlocks (dims_of before) (said ∷ blocks_said before) → IsSoFar before → IsSoFar (of_blocks said ∷ before)
+of_blocks_kept before said grown sound h =
+    let count = length (compartments_of (said ∷ blocks_said before)) in
     record {
-      dims = h.dims;
+      axes = h.axes;
       species = h.species;
       start = h.start;
       stop = h.stop;
       step = h.step;
       max_mol = h.max_mol;
-      x = h.x;
-      y = h.y;
-      z = h.z;
+      settled = h.settled;
+      placings = All-weaker _ _ (IsPlacing-more (length (species_of before)) (length (species_of before)) (compartment_count before) count (walls_of (axes_of before)) (omega arith) grown) (placings_of before) h.placings;
+      reactions = h.reactions;
+      blocks = sound;
+      outputs = h.outputs;
+      command_count = h.command_count;
+      commands = commands_more (length (species_of before)) (compartment_count before) (length (outputs_of before)) (length (species_of before)) count (length (outputs_of before)) (walls_of (axes_of before)) (omega arith) grown (omega arith) (commands_of before) h.commands;
+    }
+
+pub writes_kept : (before : List Said) (more : List (List ℕ)) → length (outputs_of before ++ more) ≤ 64 → IsSoFar before → IsSoFar (writes more ∷ before)
+writes_kept before more few h =
+    let count = length-append (outputs_of before) more in
+    let grown : length (outputs_of before) ≤ length (outputs_of before ++ more) = omega arith in
+    record {
+      axes = h.axes;
+      species = h.species;
+      start = h.start;
+      stop = h.stop;
+      step = h.step;
+      max_mol = h.max_mol;
+      settled = h.settled;
+      placings = h.placings;
+      reactions = h.reactions;
+      blocks = h.blocks;
+      outputs = few;
+      command_count = h.command_count;
+      commands = commands_more (length (species_of before)) (compartment_count before) (length (outputs_of before)) (length (species_of before)) (compartment_count before) (length (outputs_of before ++ more)) (walls_of (axes_of before)) (omega arith) (omega arith) grown (commands_of before) h.commands;
+    }
+
+pub places_kept : (before : List Said) (one : Placing) → AreSettled (axes_of before) → IsPlacing (length (species_of before)) (compartment_count before) (walls_of (axes_of before)) one → IsSoFar before → IsSoFar (places one ∷ before)
+places_kept before one settled is h = record {
+  axes = h.axes;
+  species = h.species;
+  start = h.start;
+  stop = h.stop;
+  step = h.step;
+  max_mol = h.max_mol;
+  settled = λ some. settled;
+  placings = All-push (IsPlacing (length (species_of before)) (compartment_count before) (walls_of (axes_of before))) (placings_of before) one h.placings is;
+  reactions = h.reactions;
+  blocks = h.blocks;
+  outputs = h.outputs;
+  command_count = h.command_count;
+  commands = h.commands;
+}
+
+pub performs_kept : (before : List Said) (command : Command) → AreSettled (axes_of before) → length (commands_of before) < 256 → IsCommand (length (species_of before)) (compartment_count before) (length (outputs_of before)) (walls_of (axes_of before)) command → IsSoFar before → IsSoFar (performs command ∷ before)
+performs_kept before command settled few is h =
+    let count = length-append (commands_of before) (command ∷ []) in
+    record {
+      axes = h.axes;
+      species = h.species;
+      start = h.start;
+      stop = h.stop;
+      step = h.step;
+      max_mol = h.max_mol;
       settled = λ some. settled;
       placings = h.placings;
       reactions = h.reactions;
+      blocks = h.blocks;
+      outputs = h.outputs;
       command_count = omega arith;
-      commands = All-push (IsCommand (length (species_of before)) 0 0 (walls_in before)) (commands_of before) command h.commands is;
+      commands = All-push (IsCommand (length (species_of before)) (compartment_count before) (length (outputs_of before)) (walls_of (axes_of before))) (commands_of before) command h.commands is;
     }
 
 missing_wall : (dims axis : ℕ) (bounds : Option Bounds) → axis < dims → bounds ≡ None → is_walled dims axis bounds ≡ true → ⊥
@@ -314,77 +325,45 @@ three true false c is = absurd cc
 three false b c is = absurd cc
 
 -- where all axes in use have walls, each has
-pub settled_walls : (before : List Said) (dims : ℕ) → dims_of before ≡ Some dims → IsSettled before → are_walled dims before ≡ true
-settled_walls before dims given settled =
-    let Q : Option ℕ → Type 0 = λ dims. IsSomeAnd dims (λ dims. are_walled dims before ≡ true) in
+settled_walls : (known : Axes) (dims : ℕ) → known.dims ≡ Some dims → AreSettled known → are_walled dims known ≡ true
+settled_walls known dims given settled =
+    let Q : Option ℕ → Type 0 = λ dims. IsSomeAnd dims (λ dims. are_walled dims known ≡ true) in
     subst Q given settled
 
 -- where an axis in use has no walls yet, nothing stands between walls
-not_settled : (before : List Said) (dims axis : ℕ) → dims_of before ≡ Some dims → axis < dims → axis < 3 → bounds_of axis before ≡ None → IsSettled before → ⊥
-not_settled before dims zero given used within none settled =
-    let all = three (is_walled dims 0 (bounds_of 0 before)) (is_walled dims 1 (bounds_of 1 before)) (is_walled dims 2 (bounds_of 2 before)) (settled_walls before dims given settled) in
-    missing_wall dims 0 (bounds_of 0 before) used none all.0
-not_settled before dims (suc zero) given used within none settled =
-    let all = three (is_walled dims 0 (bounds_of 0 before)) (is_walled dims 1 (bounds_of 1 before)) (is_walled dims 2 (bounds_of 2 before)) (settled_walls before dims given settled) in
-    missing_wall dims 1 (bounds_of 1 before) used none all.1
-not_settled before dims (suc (suc zero)) given used within none settled =
-    let all = three (is_walled dims 0 (bounds_of 0 before)) (is_walled dims 1 (bounds_of 1 before)) (is_walled dims 2 (bounds_of 2 before)) (settled_walls before dims given settled) in
-    missing_wall dims 2 (bounds_of 2 before) used none all.2
-not_settled before dims (suc (suc (suc axis))) given used within none settled = absurd (omega arith)
+not_settled : (known : Axes) (dims axis : ℕ) → known.dims ≡ Some dims → axis < dims → axis < 3 → bounds_at axis known ≡ None → AreSettled known → ⊥
+not_settled known dims axis given used within none settled =
+    by axis used within none (three (is_walled dims 0 known.x) (is_walled dims 1 known.y) (is_walled dims 2 known.z) (settled_walls known dims given settled))
+  where
+    by : (axis : ℕ) → axis < dims → axis < 3 → bounds_at axis known ≡ None → (is_walled dims 0 known.x ≡ true) × (is_walled dims 1 known.y ≡ true) × (is_walled dims 2 known.z ≡ true) → ⊥
+    by zero used within none all = missing_wall dims 0 known.x used none all.0
+    by (suc zero) used within none all = missing_wall dims 1 known.y used none all.1
+    by (suc (suc zero)) used within none all = missing_wall dims 2 known.z used none all.2
+    by (suc (suc (suc axis))) used within none all = absurd (omega arith)
 
-pub walls_kept : (before : List Said) (dims axis : ℕ) (bounds : Bounds) → dims_of before ≡ Some dims → axis < dims → axis < 3 → bounds_of axis before ≡ None → IsBounded (dims_of before) axis bounds → IsSoFar before → IsSoFar (walls axis bounds ∷ before)
-walls_kept before dims zero bounds given used within none is h =
-    let free = λ (some : 0 < length (placings_of before) + length (commands_of before)). not_settled before dims zero given used within none (h.settled some) in
+-- the axes with the walls of one more
+with_walls : (before : List Said) (axis : ℕ) (bounds : Bounds) → axis < 3 → IsBounded (dims_of before) axis bounds → AreAxes (axes_of before) → AreAxes (axes_of (walls axis bounds ∷ before))
+with_walls before zero bounds within is h = record { dims = h.dims; x = is; y = h.y; z = h.z }
+with_walls before (suc zero) bounds within is h = record { dims = h.dims; x = h.x; y = is; z = h.z }
+with_walls before (suc (suc zero)) bounds within is h = record { dims = h.dims; x = h.x; y = h.y; z = is }
+with_walls before (suc (suc (suc axis))) bounds within is h = absurd (omega arith)
+
+pub walls_kept : (before : List Said) (dims axis : ℕ) (bounds : Bounds) → dims_of before ≡ Some dims → axis < dims → axis < 3 → bounds_at axis (axes_of before) ≡ None → IsBounded (dims_of before) axis bounds → IsSoFar before → IsSoFar (walls axis bounds ∷ before)
+walls_kept before dims axis bounds given used within none is h =
+    let free = λ (some : 0 < length (placings_of before) + length (commands_of before)). not_settled (axes_of before) dims axis given used within none (h.settled some) in
+    let around = walls_of (axes_of (walls axis bounds ∷ before)) in
     record {
-      dims = h.dims;
+      axes = with_walls before axis bounds within is h.axes;
       species = h.species;
       start = h.start;
       stop = h.stop;
       step = h.step;
       max_mol = h.max_mol;
-      x = is;
-      y = h.y;
-      z = h.z;
       settled = λ some. absurd (free some);
-      placings = all_of_none (IsPlacing (length (species_of before)) 0 (walls_in (walls zero bounds ∷ before))) (placings_of before) (λ some. free (omega arith));
+      placings = all_of_none (IsPlacing (length (species_of before)) (compartment_count before) around) (placings_of before) (λ some. free (omega arith));
       reactions = h.reactions;
+      blocks = h.blocks;
+      outputs = h.outputs;
       command_count = h.command_count;
-      commands = all_of_none (IsCommand (length (species_of before)) 0 0 (walls_in (walls zero bounds ∷ before))) (commands_of before) (λ some. free (omega arith));
+      commands = all_of_none (IsCommand (length (species_of before)) (compartment_count before) (length (outputs_of before)) around) (commands_of before) (λ some. free (omega arith));
     }
-walls_kept before dims (suc zero) bounds given used within none is h =
-    let free = λ (some : 0 < length (placings_of before) + length (commands_of before)). not_settled before dims (suc zero) given used within none (h.settled some) in
-    record {
-      dims = h.dims;
-      species = h.species;
-      start = h.start;
-      stop = h.stop;
-      step = h.step;
-      max_mol = h.max_mol;
-      x = h.x;
-      y = is;
-      z = h.z;
-      settled = λ some. absurd (free some);
-      placings = all_of_none (IsPlacing (length (species_of before)) 0 (walls_in (walls (suc zero) bounds ∷ before))) (placings_of before) (λ some. free (omega arith));
-      reactions = h.reactions;
-      command_count = h.command_count;
-      commands = all_of_none (IsCommand (length (species_of before)) 0 0 (walls_in (walls (suc zero) bounds ∷ before))) (commands_of before) (λ some. free (omega arith));
-    }
-walls_kept before dims (suc (suc zero)) bounds given used within none is h =
-    let free = λ (some : 0 < length (placings_of before) + length (commands_of before)). not_settled before dims (suc (suc zero)) given used within none (h.settled some) in
-    record {
-      dims = h.dims;
-      species = h.species;
-      start = h.start;
-      stop = h.stop;
-      step = h.step;
-      max_mol = h.max_mol;
-      x = h.x;
-      y = h.y;
-      z = is;
-      settled = λ some. absurd (free some);
-      placings = all_of_none (IsPlacing (length (species_of before)) 0 (walls_in (walls (suc (suc zero)) bounds ∷ before))) (placings_of before) (λ some. free (omega arith));
-      reactions = h.reactions;
-      command_count = h.command_count;
-      commands = all_of_none (IsCommand (length (species_of before)) 0 0 (walls_in (walls (suc (suc zero)) bounds ∷ before))) (commands_of before) (λ some. free (omega arith));
-    }
-walls_kept before dims (suc (suc (suc axis))) bounds given used within none is h = absurd (omega arith)

@@ -5,11 +5,7 @@ use Rattle.std.specs.Str.{bytes_eq}
 use Rattle.std.proofs.lemmas.Bool.Decides.{nat_tests, Decides-int_eq}
 use Rattle.std.proofs.lemmas.Int.{ints}
 use Rattle.smol_text.specs.Reading.{Stated, words_of}
-use Rattle.smol_types.specs.declared.command.Act.{Act}
-use Rattle.smol_types.specs.declared.command.Act.TheVariants as act
 use Rattle.smol_types.specs.declared.command.Command.{Command}
-use Rattle.smol_types.specs.declared.command.When.{When}
-use Rattle.smol_types.specs.declared.command.When.TheVariants as «when»
 use Rattle.smol_types.specs.declared.fault.Kind.{Kind}
 use Rattle.smol_types.specs.declared.fault.Kind.TheVariants as kind
 use Rattle.smol_types.specs.declared.placing.Given.{Given}
@@ -18,49 +14,57 @@ use Rattle.smol_types.specs.declared.placing.Placing.{Placing}
 use Rattle.smol_types.specs.declared.placing.Placing.TheVariants as placing
 use Rattle.smol_types.specs.declared.wall.Letter.{Letter}
 use Rattle.smol_types.specs.declared.wall.Wall.{Wall}
-use Rattle.smol_types.specs.Commands.{IsWhen, IsAct}
+use Rattle.smol_types.specs.Commands.{IsCommand}
 use Rattle.smol_types.specs.Walls.{LiesBetween, IsGiven, AreGiven}
+use Rattle.smol_line.specs.declared.axes.Axes.{Axes}
+use Rattle.smol_line.specs.declared.axes.Bounds.{Bounds}
+use Rattle.smol_line.specs.Axes.{AreAxes, AreSettled, IsBounded, are_walled, is_walled, needs_dim, needs_walls, read_axes, read_axis, walls_of}
 use Rattle.smol_line.specs.Axis.{axis_in}
 use Rattle.smol_line.specs.Checks.{unless, once, word_count, passing, with_value}
+use Rattle.smol_line.specs.Coordinate.{coordinate_between, inside, ticks_within}
 use Rattle.smol_line.specs.Length.{micros_in}
 use Rattle.smol_line.specs.Numbers.{count_in}
-use Rattle.smol_line.specs.SpeciesWord.{species_word_in}
+use Rattle.smol_line.specs.SpeciesWord.{number_in, species_word_in}
 use Rattle.smol_line.specs.Words.{word_at}
 use Rattle.smol_line.proofs.Passing.{passed, valued, holds, not_yet, is_there}
-use Rattle.smol_line.proofs.Ranges.{count_in-low, count_in-high, decimal_in-within, axis_in-within, species_word_in-within}
+use Rattle.smol_line.proofs.Ranges.{count_in-low, count_in-high, decimal_in-within, axis_in-within, number_in-within, species_word_in-within}
+use Rattle.smol_blocks.specs.declared.block_statement.BlockStatement.{BlockStatement}
+use Rattle.smol_blocks.specs.Blocks.{BlockSaid, block_line_in, block_of, compartment_names, compartments_of, is_outside}
+use Rattle.smol_blocks.specs.BlocksSound.{AreBlocks}
+use Rattle.smol_blocks.proofs.SoundBlocks.{blocks_keep, compartments_grow, outside_equal}
+use Rattle.smol_cmd.specs.Cmd.{cmd_in}
+use Rattle.smol_cmd.specs.OutputFiles.{output_files_in}
+use Rattle.smol_cmd.proofs.OutputNames.{files_are_few}
+use Rattle.smol_cmd.proofs.Sound.{commands_are_few, commands_are_sound}
 use Rattle.smol_reactions.specs.Statements.{binding_radius_said, product_placement_said, reaction_probability_said, reaction_said}
 use Rattle.smol_reactions.proofs.SoundSaid.{binding_radius_keeps, product_placement_keeps, reaction_keeps, reaction_probability_keeps}
-use Rattle.smol_config.specs.declared.cmd.act.Verb.{Verb}
-use Rattle.smol_config.specs.declared.cmd.act.Verb.TheVariants as verb
 use Rattle.smol_config.specs.declared.statement.Statement.{Statement}
 use Rattle.smol_config.specs.declared.statement.Statement.TheVariants as statement
-use Rattle.smol_config.specs.declared.walls.Bounds.{Bounds}
-use Rattle.smol_config.specs.Said.{Said, passed_over, axes, names, moves, starts, stops, steps, limits, seeds, walls, places, of_reactions, performs, say}
-use Rattle.smol_config.specs.Statement.{statement_of}
-use Rattle.smol_config.specs.Dim.{dims_of, needs_dim, dim_in}
+use Rattle.smol_config.specs.Said.{Said, passed_over, axes, names, moves, starts, stops, steps, limits, seeds, walls, places, of_reactions, of_blocks, writes, performs, say}
+use Rattle.smol_config.specs.Statement.{may_stand, statement_of}
+use Rattle.smol_config.specs.Axes.{axes_of, dims_of}
+use Rattle.smol_config.specs.Dim.{dim_in}
 use Rattle.smol_config.specs.Species.{species_of, names_fault, further_words, species_in}
 use Rattle.smol_config.specs.Motion.{difc_in, difstep_in}
 use Rattle.smol_config.specs.Times.{nanos_in, start_of, stop_of, step_of, time_in, time_step_in}
 use Rattle.smol_config.specs.MaxMol.{max_mol_of, max_mol_in}
 use Rattle.smol_config.specs.RandomSeed.{random_seed_in}
-use Rattle.smol_config.specs.Walls.{bounds_of, is_walled, are_walled, needs_walls}
-use Rattle.smol_config.specs.Boundaries.{line_letter, bounds_in, boundaries_in}
-use Rattle.smol_config.specs.Mol.{ticks_within, inside, coordinate_in, coordinate_at, coordinates_in, mol_in}
+use Rattle.smol_config.specs.Boundaries.{line_letter, bounds_at, bounds_in, boundaries_in}
+use Rattle.smol_config.specs.Mol.{given_in, place_in, mol_in}
 use Rattle.smol_config.specs.Reactions.{reactions_said}
-use Rattle.smol_config.specs.Cmd.{commands_of, cmd_in}
-use Rattle.smol_config.specs.Cmd.When.{when_in}
-use Rattle.smol_config.specs.Cmd.Act.{verb_in, outlet_in, verb_act, act_in}
-use Rattle.smol_config.specs.Content.{walls_of, walls_in}
+use Rattle.smol_config.specs.Blocks.{blocks_said, stands_outside}
+use Rattle.smol_config.specs.CompartmentMol.{compartment_mol_in}
+use Rattle.smol_config.specs.Commands.{commands_of, known_of, outputs_of}
 use Rattle.smol_config.specs.Reader.{statement_in, line_in}
-use Rattle.smol_config.specs.SoFar.{IsBounded, IsSettled, IsSoFar}
-use Rattle.smol_config.proofs.Kept.{passed_over_kept, axes_kept, names_kept, moves_kept, starts_kept, stops_kept, steps_kept, limits_kept, seeds_kept, walls_kept, places_kept, of_reactions_kept, performs_kept, three}
+use Rattle.smol_config.specs.SoFar.{IsSoFar}
+use Rattle.smol_config.proofs.Kept.{passed_over_kept, axes_kept, names_kept, moves_kept, starts_kept, stops_kept, steps_kept, limits_kept, seeds_kept, walls_kept, places_kept, of_reactions_kept, of_blocks_kept, writes_kept, performs_kept, three}
 
 -- what is said is said by a value
 said_by : {T : Type 0} (wrap : T → Said) (rule : Result T Kind) (said : Said) → say wrap rule ≡ Ok said → (value : T) × (rule ≡ Ok value) × (wrap value ≡ said)
 said_by wrap (Ok value) said is = (value, refl, cc)
 said_by wrap (Err kind) said is = absurd cc
 
-pub dim_keeps : (before : List Said) (line : Stated) (dims : ℕ) → dim_in before line ≡ Ok dims → IsSoFar before → IsSoFar (axes dims ∷ before)
+dim_keeps : (before : List Said) (line : Stated) (dims : ℕ) → dim_in (axes_of before) line ≡ Ok dims → IsSoFar before → IsSoFar (axes dims ∷ before)
 unfolding dim_in
 dim_keeps before line dims is h =
     let value = count_in 1 3 (word_at line 1) in
@@ -144,45 +148,45 @@ bounds_fit line bounds is =
     subst (λ (b : Bounds). (unsigned_abs b.low.0 ≤ 1000000000000) × (unsigned_abs b.high.0 ≤ 1000000000000) × (b.low.0 <ℤ b.high.0)) same
     (length_small (word_at line 2) low.0 low.1, length_small (word_at line 3) high.0 high.1, below)
 
-boundaries_keep : (before : List Said) (line : Stated) (given : ℕ × Bounds) → boundaries_in before line ≡ Ok given → IsSoFar before → IsSoFar (walls given.0 given.1 ∷ before)
+boundaries_keep : (before : List Said) (line : Stated) (given : ℕ × Bounds) → boundaries_in (axes_of before) line ≡ Ok given → IsSoFar before → IsSoFar (walls given.0 given.1 ∷ before)
 unfolding boundaries_in
 boundaries_keep before line given is h =
     let words = unless ((length (words_of line) == 4) || (length (words_of line) == 5)) kind.WrongWordCount in
-    let last = λ (axis : ℕ) (bounds : Bounds). passing {T = ℕ × Bounds} (once (bounds_of axis before) ∷ []) (Ok (axis, bounds)) in
-    let dims = valued (needs_dim before) (λ dims. passing (words ∷ []) (with_value (axis_in dims (word_at line 1)) (λ axis. with_value (bounds_in line) (last axis)))) given is in
+    let last = λ (axis : ℕ) (bounds : Bounds). passing {T = ℕ × Bounds} (once (bounds_at axis (axes_of before)) ∷ []) (Ok (axis, bounds)) in
+    let dims = valued (needs_dim (axes_of before)) (λ dims. passing (words ∷ []) (with_value (axis_in dims (word_at line 1)) (λ axis. with_value (bounds_in line) (last axis)))) given is in
     let counted = passed words [] (with_value (axis_in dims.0 (word_at line 1)) (λ axis. with_value (bounds_in line) (last axis))) given dims.2 in
     let axis = valued (axis_in dims.0 (word_at line 1)) (λ axis. with_value (bounds_in line) (last axis)) given counted.1 in
     let bounds = valued (bounds_in line) (last axis.0) given axis.2 in
     let all : Result (ℕ × Bounds) Kind = Ok (axis.0, bounds.0) in
-    let new = passed (once (bounds_of axis.0 before)) [] all given bounds.2 in
+    let new = passed (once (bounds_at axis.0 (axes_of before))) [] all given bounds.2 in
     let has = is_there (dims_of before) kind.BadOrder dims.0 dims.1 in
     let used = axis_in-within dims.0 (word_at line 1) axis.0 axis.1 in
-    let range = rw has at h.dims in
+    let range = rw has at h.axes.dims in
     let most = range.1 in
     let fit = bounds_fit line bounds.0 bounds.1 in
     let Q : Option ℕ → Type 0 = λ count. IsSomeAnd count (λ count. axis.0 < count) in
     let made : ℕ × Bounds = (axis.0, bounds.0) in
     let same : made ≡ given = cc in
     subst (λ (g : ℕ × Bounds). IsSoFar (walls g.0 g.1 ∷ before)) same
-    (walls_kept before dims.0 axis.0 bounds.0 has used (omega arith) (not_yet (bounds_of axis.0 before) new.0)
+    (walls_kept before dims.0 axis.0 bounds.0 has used (omega arith) (not_yet (bounds_at axis.0 (axes_of before)) new.0)
     (record { in_use = subst Q (sym has) used; low_size = fit.0; high_size = fit.1; ordered = fit.2 }) h)
 
 -- a statement that needs walls stands behind them
-settled_by : (before : List Said) (dims : ℕ) → needs_walls before ≡ Ok dims → (dims_of before ≡ Some dims) × (are_walled dims before ≡ true)
-settled_by before dims is =
-    let found = valued (needs_dim before) (λ dims. if are_walled dims before then Ok dims else Err kind.BadOrder) dims is in
-    let has = is_there (dims_of before) kind.BadOrder found.0 found.1 in
-    let both = walled_when (are_walled found.0 before) found.0 dims found.2 in
-    (has ∙ ap (λ n. Some n) both.1, subst (λ n. are_walled n before ≡ true) both.1 both.0)
+settled_by : (known : Axes) (dims : ℕ) → needs_walls known ≡ Ok dims → (known.dims ≡ Some dims) × (are_walled dims known ≡ true)
+settled_by known dims is =
+    let found = valued (needs_dim known) (λ dims. if are_walled dims known then Ok dims else Err kind.BadOrder) dims is in
+    let has = is_there known.dims kind.BadOrder found.0 found.1 in
+    let both = walled_when (are_walled found.0 known) found.0 dims found.2 in
+    (has ∙ ap (λ n. Some n) both.1, subst (λ n. are_walled n known ≡ true) both.1 both.0)
   where
     walled_when : (test : Bool) (n found : ℕ) → (if test then Ok n else Err kind.BadOrder) ≡ Ok found → (test ≡ true) × (n ≡ found)
     walled_when true n found is = (refl, cc)
     walled_when false n found is = absurd cc
 
-is_settled : (before : List Said) (dims : ℕ) → needs_walls before ≡ Ok dims → IsSettled before
-is_settled before dims is =
-    let by = settled_by before dims is in
-    let Q : Option ℕ → Type 0 = λ dims. IsSomeAnd dims (λ dims. are_walled dims before ≡ true) in
+is_settled : (known : Axes) (dims : ℕ) → needs_walls known ≡ Ok dims → AreSettled known
+is_settled known dims is =
+    let by = settled_by known dims is in
+    let Q : Option ℕ → Type 0 = λ dims. IsSomeAnd dims (λ dims. are_walled dims known ≡ true) in
     subst Q (sym by.0) by.1
 
 -- the two walls of an axis
@@ -216,37 +220,44 @@ ticks_between axis bounds x ordered above below =
         by true is = inl ((Decides-int_eq x bounds.high.0).0 is, ap (λ b. if b then pos 2 *ℤ x -ℤ pos 1 else pos 2 *ℤ x +ℤ pos 1) is)
         by false is = inr (λ same. let yes = (Decides-int_eq x bounds.high.0).1 same in let no : true ≡ false = sym yes ∙ is in cc, ap (λ b. if b then pos 2 *ℤ x -ℤ pos 1 else pos 2 *ℤ x +ℤ pos 1) is)
 
-inside_between : (axis : ℕ) (bounds : Bounds) (x : ℤ) (given : Given) (test : Bool) → bounds.low.0 <ℤ bounds.high.0 → (int_le bounds.low.0 x && int_le x bounds.high.0) ≡ test → (if test then Ok (At (ticks_within bounds x)) else Err kind.OutsideWalls) ≡ Ok given → IsGiven (lower_wall axis bounds) (upper_wall axis bounds) given
-inside_between axis bounds x given true ordered tests is =
+inside_between : (axis : ℕ) (bounds : Bounds) (x found : ℤ) (test : Bool) → bounds.low.0 <ℤ bounds.high.0 → (int_le bounds.low.0 x && int_le x bounds.high.0) ≡ test → (if test then Ok (ticks_within bounds x) else Err kind.OutsideWalls) ≡ Ok found → LiesBetween (lower_wall axis bounds) (upper_wall axis bounds) found
+inside_between axis bounds x found true ordered tests is =
     let both = both_tests (int_le bounds.low.0 x) (int_le x bounds.high.0) tests in
     let low = both.0 in
     let high = both.1 in
-    let same : At (ticks_within bounds x) ≡ given = cc in
-    subst (IsGiven (lower_wall axis bounds) (upper_wall axis bounds)) same (ticks_between axis bounds x ordered (grind (arith, nat_tests)) (grind (arith, nat_tests)))
+    let same : ticks_within bounds x ≡ found = cc in
+    subst (LiesBetween (lower_wall axis bounds) (upper_wall axis bounds)) same (ticks_between axis bounds x ordered (grind (arith, nat_tests)) (grind (arith, nat_tests)))
   where
     both_tests : (a b : Bool) → (a && b) ≡ true → (a ≡ true) × (b ≡ true)
     both_tests true b is = (refl, is)
     both_tests false b is = absurd cc
-inside_between axis bounds x given false ordered tests is = absurd cc
+inside_between axis bounds x found false ordered tests is = absurd cc
 
-drawn_or_inside : (axis : ℕ) (bounds : Bounds) (word : List ℕ) (given : Given) (drawn : Bool) → bounds.low.0 <ℤ bounds.high.0 → (if drawn then Err kind.NotInProfile else with_value (micros_in word) (inside bounds)) ≡ Ok given → IsGiven (lower_wall axis bounds) (upper_wall axis bounds) given
-drawn_or_inside axis bounds word given true ordered is = absurd cc
-drawn_or_inside axis bounds word given false ordered is =
-    let x = valued (micros_in word) (inside bounds) given is in
-    inside_between axis bounds x.0 given (int_le bounds.low.0 x.0 && int_le x.0 bounds.high.0) ordered refl x.2
+-- a coordinate between two walls lies there
+coordinate_lies : (axis : ℕ) (bounds : Bounds) (word : List ℕ) (found : ℤ) → bounds.low.0 <ℤ bounds.high.0 → coordinate_between bounds word ≡ Ok found → LiesBetween (lower_wall axis bounds) (upper_wall axis bounds) found
+coordinate_lies axis bounds word found ordered is =
+    let x = valued (micros_in word) (inside bounds) found is in
+    inside_between axis bounds x.0 found (int_le bounds.low.0 x.0 && int_le x.0 bounds.high.0) ordered refl x.2
 
-coordinate_is : (axis : ℕ) (dims : Option ℕ) (bounds : Option Bounds) (line : Stated) (given : Given) → IfSome bounds (IsBounded dims axis) → coordinate_at axis bounds line ≡ Ok given → IsCoordinate axis bounds given
-unfolding coordinate_in
+drawn_or_given : (axis : ℕ) (bounds : Bounds) (word : List ℕ) (given : Given) (drawn : Bool) → bounds.low.0 <ℤ bounds.high.0 → (if drawn then Ok Any else with_value (coordinate_between bounds word) (λ x. Ok (At x))) ≡ Ok given → IsGiven (lower_wall axis bounds) (upper_wall axis bounds) given
+drawn_or_given axis bounds word given true ordered is = let same : Any ≡ given = cc in subst (IsGiven (lower_wall axis bounds) (upper_wall axis bounds)) same tt
+drawn_or_given axis bounds word given false ordered is =
+    let x = valued (coordinate_between bounds word) (λ x. let at : Result Given Kind = Ok (At x) in at) given is in
+    let same : At x.0 ≡ given = cc in
+    subst (IsGiven (lower_wall axis bounds) (upper_wall axis bounds)) same (coordinate_lies axis bounds word x.0 ordered x.1)
+
+coordinate_is : (axis : ℕ) (dims : Option ℕ) (bounds : Option Bounds) (line : Stated) (given : Given) → IfSome bounds (IsBounded dims axis) → read_axis given_in (At (pos 1)) 3 axis bounds line ≡ Ok given → IsCoordinate axis bounds given
+unfolding given_in
 coordinate_is axis dims None line given is_bounded is = let same : At (pos 1) ≡ given = cc in subst (IsCoordinate axis None) same refl
 coordinate_is axis dims (Some bounds) line given is_bounded is =
-    drawn_or_inside axis bounds (word_at line (3 + axis)) given (bytes_eq (word_at line (3 + axis)) (codes "u")) is_bounded.ordered is
+    drawn_or_given axis bounds (word_at line (3 + axis)) given (bytes_eq (word_at line (3 + axis)) (codes "u")) is_bounded.ordered is
 
 unwalled : (dims axis : ℕ) → axis < dims → is_walled dims axis None ≡ true → ⊥
 unwalled dims axis used walled = let passed : (nat_le dims axis || false) ≡ true = walled in grind (arith, nat_tests)
 
 -- three coordinates lie between the walls of the axes in use
 are_given : (dims : ℕ) (x y z : Option Bounds) (u v w : Given) → 1 ≤ dims → is_walled dims 0 x ≡ true → is_walled dims 1 y ≡ true → is_walled dims 2 z ≡ true → IfSome y (IsBounded (Some dims) 1) → IfSome z (IsBounded (Some dims) 2)
-    → IsCoordinate 0 x u → IsCoordinate 1 y v → IsCoordinate 2 z w → AreGiven (walls_of x y z) (u ∷ v ∷ w ∷ [])
+    → IsCoordinate 0 x u → IsCoordinate 1 y v → IsCoordinate 2 z w → AreGiven (walls_of (record { dims = Some dims; x = x; y = y; z = z })) (u ∷ v ∷ w ∷ [])
 unfolding walls_of
 are_given dims None y z u v w some walled_x walled_y walled_z used_y used_z at_x at_y at_z = absurd (unwalled dims 0 (omega arith) walled_x)
 are_given dims (Some x) None None u Any w some walled_x walled_y walled_z used_y used_z at_x at_y at_z = absurd at_y
@@ -257,152 +268,142 @@ are_given dims (Some x) (Some y) None u v Any some walled_x walled_y walled_z us
 are_given dims (Some x) (Some y) None u v (At w) some walled_x walled_y walled_z used_y used_z at_x at_y at_z = (at_x, (at_y, (at_z, tt)))
 are_given dims (Some x) (Some y) (Some z) u v w some walled_x walled_y walled_z used_y used_z at_x at_y at_z = (at_x, (at_y, (at_z, tt)))
 
-coordinates_are : (before : List Said) (line : Stated) (dims : ℕ) (at : List Given) → dims_of before ≡ Some dims → are_walled dims before ≡ true → IsSoFar before → coordinates_in before line ≡ Ok at → (length at ≡ 3) × AreGiven (walls_in before) at
-unfolding coordinates_in
-coordinates_are before line dims at has walled h is =
+coordinates_are : (known : Axes) (line : Stated) (dims : ℕ) (at : List Given) → known.dims ≡ Some dims → are_walled dims known ≡ true → AreAxes known → place_in known line ≡ Ok at → (length at ≡ 3) × AreGiven (walls_of known) at
+unfolding read_axes walls_of
+coordinates_are known line dims at has walled h is =
     let third = λ (x y z : Given). let all : Result (List Given) Kind = Ok (x ∷ y ∷ z ∷ []) in all in
-    let x = valued (coordinate_at 0 (bounds_of 0 before) line) (λ x. with_value (coordinate_at 1 (bounds_of 1 before) line) (λ y. with_value (coordinate_at 2 (bounds_of 2 before) line) (third x y))) at is in
-    let y = valued (coordinate_at 1 (bounds_of 1 before) line) (λ y. with_value (coordinate_at 2 (bounds_of 2 before) line) (third x.0 y)) at x.2 in
-    let z = valued (coordinate_at 2 (bounds_of 2 before) line) (third x.0 y.0) at y.2 in
-    let walls = three (is_walled dims 0 (bounds_of 0 before)) (is_walled dims 1 (bounds_of 1 before)) (is_walled dims 2 (bounds_of 2 before)) walled in
+    let read = λ (axis : ℕ) (bounds : Option Bounds). read_axis given_in (At (pos 1)) 3 axis bounds line in
+    let x = valued (read 0 known.x) (λ x. with_value (read 1 known.y) (λ y. with_value (read 2 known.z) (third x y))) at is in
+    let y = valued (read 1 known.y) (λ y. with_value (read 2 known.z) (third x.0 y)) at x.2 in
+    let z = valued (read 2 known.z) (third x.0 y.0) at y.2 in
+    let walls = three (is_walled dims 0 known.x) (is_walled dims 1 known.y) (is_walled dims 2 known.z) walled in
     let range = rw has at h.dims in
     let same : x.0 ∷ y.0 ∷ z.0 ∷ [] ≡ at = cc in
-    subst (λ (at : List Given). (length at ≡ 3) × AreGiven (walls_in before) at) same (
+    subst (λ (at : List Given). (length at ≡ 3) × AreGiven (walls_of known) at) same (
       refl,
-      are_given dims (bounds_of 0 before) (bounds_of 1 before) (bounds_of 2 before) x.0 y.0 z.0 range.0 walls.0 walls.1 walls.2
-          (let Q : Option ℕ → Type 0 = λ dims. IfSome (bounds_of 1 before) (IsBounded dims 1) in subst Q has h.y)
-          (let Q : Option ℕ → Type 0 = λ dims. IfSome (bounds_of 2 before) (IsBounded dims 2) in subst Q has h.z)
-          (coordinate_is 0 (dims_of before) (bounds_of 0 before) line x.0 h.x x.1)
-          (coordinate_is 1 (dims_of before) (bounds_of 1 before) line y.0 h.y y.1)
-          (coordinate_is 2 (dims_of before) (bounds_of 2 before) line z.0 h.z z.1),
+      are_given dims known.x known.y known.z x.0 y.0 z.0 range.0 walls.0 walls.1 walls.2
+          (let Q : Option ℕ → Type 0 = λ dims. IfSome known.y (IsBounded dims 1) in subst Q has h.y)
+          (let Q : Option ℕ → Type 0 = λ dims. IfSome known.z (IsBounded dims 2) in subst Q has h.z)
+          (coordinate_is 0 known.dims known.x line x.0 h.x x.1)
+          (coordinate_is 1 known.dims known.y line y.0 h.y y.1)
+          (coordinate_is 2 known.dims known.z line z.0 h.z z.1),
     )
 
-mol_keeps : (before : List Said) (line : Stated) (one : Placing) → mol_in before line ≡ Ok one → IsSoFar before → IsSoFar (places one ∷ before)
+mol_keeps : (before : List Said) (line : Stated) (one : Placing) → mol_in (axes_of before) (species_of before) line ≡ Ok one → IsSoFar before → IsSoFar (places one ∷ before)
 unfolding mol_in
 mol_keeps before line one is h =
     let last = λ (n species : ℕ) (at : List Given). let all : Result Placing Kind = Ok (placing.Mol n species at) in all in
-    let named = λ (n species : ℕ). with_value (coordinates_in before line) (last n species) in
+    let named = λ (n species : ℕ). with_value (place_in (axes_of before) line) (last n species) in
     let counted = λ (n : ℕ). with_value (species_word_in (species_of before) (word_at line 2)) (named n) in
-    let dims = valued (needs_walls before) (λ dims. passing (word_count (3 + dims) line ∷ []) (with_value (count_in 0 1000000 (word_at line 1)) counted)) one is in
+    let dims = valued (needs_walls (axes_of before)) (λ dims. passing (word_count (3 + dims) line ∷ []) (with_value (count_in 0 1000000 (word_at line 1)) counted)) one is in
     let words = passed (word_count (3 + dims.0) line) [] (with_value (count_in 0 1000000 (word_at line 1)) counted) one dims.2 in
     let n = valued (count_in 0 1000000 (word_at line 1)) counted one words.1 in
     let species = valued (species_word_in (species_of before) (word_at line 2)) (named n.0) one n.2 in
-    let at = valued (coordinates_in before line) (last n.0 species.0) one species.2 in
-    let by = settled_by before dims.0 dims.1 in
-    let lie = coordinates_are before line dims.0 at.0 by.0 by.1 h at.1 in
+    let at = valued (place_in (axes_of before) line) (last n.0 species.0) one species.2 in
+    let by = settled_by (axes_of before) dims.0 dims.1 in
+    let lie = coordinates_are (axes_of before) line dims.0 at.0 by.0 by.1 h.axes at.1 in
     let made : Placing = placing.Mol n.0 species.0 at.0 in
     let same : made ≡ one = cc in
     subst (λ (one : Placing). IsSoFar (places one ∷ before)) same
-    (places_kept before made (is_settled before dims.0 dims.1)
+    (places_kept before made (is_settled (axes_of before) dims.0 dims.1)
     (count_in-high 0 1000000 (word_at line 1) n.0 n.1, species_word_in-within (species_of before) (word_at line 2) species.0 species.1, lie.0, lie.1) h)
 
-when_is : (word : List ℕ) (due : When) → when_in word ≡ Ok due → IsWhen due
-unfolding when_in
-when_is word due is = by (bytes_eq word (codes "b")) (bytes_eq word (codes "a")) due is
-  where
-    by : (b a : Bool) (due : When) → (if b then Ok «when».Before else (if a then Ok «when».After else Err kind.BadTiming)) ≡ Ok due → IsWhen due
-    by true a due is = let same : «when».Before ≡ due = cc in subst IsWhen same tt
-    by false true due is = let same : «when».After ≡ due = cc in subst IsWhen same tt
-    by false false due is = absurd cc
+-- where no block is open, each compartment that is named is there
+compartments_closed : (dims : Option ℕ) (said : List BlockSaid) → AreBlocks dims said → is_outside (block_of said) ≡ true → length (compartment_names said) ≡ length (compartments_of said)
+compartments_closed None said none outside = rw none refl
+compartments_closed (Some dims) said sound outside = let both = outside_equal dims said sound outside in both.1
 
-outlet_is : (word : List ℕ) (out : ℕ) → outlet_in word ≡ Ok out → out < 2 + 0
-outlet_is word out is = by (bytes_eq word (codes "stdout")) out is
-  where
-    by : (test : Bool) (out : ℕ) → (if test then Ok 0 else Err kind.UnknownOutlet) ≡ Ok out → out < 2 + 0
-    by true out is = let same : 0 ≡ out = cc in omega arith
-    by false out is = absurd cc
+compartment_mol_keeps : (before : List Said) (line : Stated) (one : Placing) → compartment_mol_in (axes_of before) (species_of before) (compartment_names (blocks_said before)) line ≡ Ok one → stands_outside before ≡ true → IsSoFar before → IsSoFar (places one ∷ before)
+unfolding compartment_mol_in
+compartment_mol_keeps before line one is outside h =
+    let last = λ (n species compartment : ℕ). let all : Result Placing Kind = Ok (placing.InCompartment line.number n species compartment) in all in
+    let inside = λ (n species : ℕ). with_value (number_in (compartment_names (blocks_said before)) (word_at line 3)) (last n species) in
+    let counted = λ (n : ℕ). with_value (species_word_in (species_of before) (word_at line 2)) (inside n) in
+    let dims = valued (needs_walls (axes_of before)) (λ dims. passing (word_count 4 line ∷ []) (with_value (count_in 0 1000000 (word_at line 1)) counted)) one is in
+    let words = passed (word_count 4 line) [] (with_value (count_in 0 1000000 (word_at line 1)) counted) one dims.2 in
+    let n = valued (count_in 0 1000000 (word_at line 1)) counted one words.1 in
+    let species = valued (species_word_in (species_of before) (word_at line 2)) (inside n.0) one n.2 in
+    let compartment = valued (number_in (compartment_names (blocks_said before)) (word_at line 3)) (last n.0 species.0) one species.2 in
+    let named = number_in-within (compartment_names (blocks_said before)) (word_at line 3) compartment.0 compartment.1 in
+    let closed = compartments_closed (dims_of before) (blocks_said before) h.blocks outside in
+    let made : Placing = placing.InCompartment line.number n.0 species.0 compartment.0 in
+    let same : made ≡ one = cc in
+    subst (λ (one : Placing). IsSoFar (places one ∷ before)) same
+    (places_kept before made (is_settled (axes_of before) dims.0 dims.1)
+    (count_in-high 0 1000000 (word_at line 1) n.0 n.1, species_word_in-within (species_of before) (word_at line 2) species.0 species.1, omega arith) h)
 
-act_is : (species : ℕ) (around : List Wall) (line : Stated) (at : ℕ) (act : Act) → act_in line at ≡ Ok act → IsAct species 0 0 around act
-unfolding act_in
-act_is species around line at one is =
-    let found = valued (verb_in (word_at line at)) (λ verb. verb_act verb line at) one is in
-    by found.0 found.2
-  where
-    by : (verb : Verb) → verb_act verb line at ≡ Ok one → IsAct species 0 0 around one
-    by verb.MolCount is =
-        let value = with_value (outlet_in (word_at line (at + 1))) (λ out. let done : Result Act Kind = Ok (act.Count out) in done) in
-        let words = passed (word_count (at + 2) line) [] value one is in
-        let out = valued (outlet_in (word_at line (at + 1))) (λ out. let done : Result Act Kind = Ok (act.Count out) in done) one words.1 in
-        let same : act.Count out.0 ≡ one = cc in
-        subst (IsAct species 0 0 around) same (outlet_is (word_at line (at + 1)) out.0 out.1)
-    by verb.ListMols is =
-        let value = with_value (outlet_in (word_at line (at + 1))) (λ out. let done : Result Act Kind = Ok (act.List out) in done) in
-        let words = passed (word_count (at + 2) line) [] value one is in
-        let out = valued (outlet_in (word_at line (at + 1))) (λ out. let done : Result Act Kind = Ok (act.List out) in done) one words.1 in
-        let same : act.List out.0 ≡ one = cc in
-        subst (IsAct species 0 0 around) same (outlet_is (word_at line (at + 1)) out.0 out.1)
+-- what is said of blocks stays sound
+block_keeps : (one : BlockStatement) (before : List Said) (line : Stated) (said : BlockSaid) → block_line_in one (axes_of before) (species_of before) (blocks_said before) line ≡ Ok said → IsSoFar before → IsSoFar (of_blocks said ∷ before)
+block_keeps one before line said is h =
+    of_blocks_kept before said (compartments_grow one (axes_of before) (species_of before) (blocks_said before) line said is)
+    (blocks_keep one (axes_of before) (species_of before) (blocks_said before) line said is h.axes h.blocks) h
 
-cmd_keeps : (before : List Said) (line : Stated) (command : Command) → cmd_in before line ≡ Ok command → IsSoFar before → IsSoFar (performs command ∷ before)
+cmd_keeps : (before : List Said) (line : Stated) (command : Command) → cmd_in (known_of before) (length (commands_of before)) line ≡ Ok command → stands_outside before ≡ true → IsSoFar before → IsSoFar (performs command ∷ before)
 unfolding cmd_in
-cmd_keeps before line command is h =
-    let few = unless (nat_lt (length (commands_of before)) 256) kind.TooMany in
-    let made = λ (due : When) (act : Act). let one : Command = record { «when» = due; tests = []; act = act } in one in
-    let last = λ (due : When) (act : Act). passing {T = Command} (few ∷ []) (Ok (made due act)) in
-    let three_words = unless (nat_le 3 (length (words_of line))) kind.WrongWordCount in
-    let two_words = unless (nat_le 2 (length (words_of line))) kind.WrongWordCount in
-    let timed = λ (due : When). passing {T = Command} (three_words ∷ []) (with_value (act_in line 2) (last due)) in
-    let dims = valued (needs_walls before) (λ dims. passing (two_words ∷ []) (with_value (when_in (word_at line 1)) timed)) command is in
-    let two = passed two_words [] (with_value (when_in (word_at line 1)) timed) command dims.2 in
-    let due = valued (when_in (word_at line 1)) timed command two.1 in
-    let more = passed three_words [] (with_value (act_in line 2) (last due.0)) command due.2 in
-    let act = valued (act_in line 2) (last due.0) command more.1 in
-    let all : Result Command Kind = Ok (made due.0 act.0) in
-    let room = passed few [] all command act.2 in
-    let test = holds (nat_lt (length (commands_of before)) 256) kind.TooMany room.0 in
-    let fits : length (commands_of before) < 256 = grind (arith, nat_tests) in
-    let same : made due.0 act.0 ≡ command = cc in
-    subst (λ (one : Command). IsSoFar (performs one ∷ before)) same
-    (performs_kept before (made due.0 act.0) (is_settled before dims.0 dims.1) fits (record {
-      timing = when_is (word_at line 1) due.0 due.1;
-      test_count = omega arith;
-      tests = λ k d within. absurd (omega arith);
-      does = act_is (length (species_of before)) (walls_in before) line 2 act.0 act.1;
-    }) h)
+cmd_keeps before line command is outside h =
+    let dims = valued (needs_walls (axes_of before)) _ command is in
+    let sound = commands_are_sound (known_of before) (length (commands_of before)) line command is h.axes in
+    let closed = compartments_closed (dims_of before) (blocks_said before) h.blocks outside in
+    performs_kept before command (is_settled (axes_of before) dims.0 dims.1)
+    (commands_are_few (known_of before) (length (commands_of before)) line command is)
+    (subst (λ (count : ℕ). IsCommand (length (species_of before)) count (length (outputs_of before)) (walls_of (axes_of before)) command) closed sound) h
 
 -- a line that makes a statement keeps what holds so far
-statement_keeps : (statement : Statement) (before : List Said) (line : Stated) (said : Said) → statement_in statement before line ≡ Ok said → IsSoFar before → IsSoFar (said ∷ before)
+statement_keeps : (statement : Statement) (before : List Said) (line : Stated) (said : Said) → may_stand statement (stands_outside before) ≡ true → statement_in statement before line ≡ Ok said → IsSoFar before → IsSoFar (said ∷ before)
 unfolding statement_in
-statement_keeps statement.PassedOver before line said is h =
+statement_keeps statement.PassedOver before line said place is h =
     let same : passed_over ≡ said = cc in subst (λ (s : Said). IsSoFar (s ∷ before)) same (passed_over_kept before h)
-statement_keeps statement.NotInProfile before line said is h = absurd cc
-statement_keeps statement.Unknown before line said is h = absurd cc
-statement_keeps statement.Dim before line said is h =
-    let by = said_by axes (dim_in before line) said is in subst (λ (s : Said). IsSoFar (s ∷ before)) by.2 (dim_keeps before line by.0 by.1 h)
-statement_keeps statement.Species before line said is h =
+statement_keeps statement.NotInProfile before line said place is h = absurd cc
+statement_keeps statement.Unknown before line said place is h = absurd cc
+statement_keeps statement.Dim before line said place is h =
+    let by = said_by axes (dim_in (axes_of before) line) said is in subst (λ (s : Said). IsSoFar (s ∷ before)) by.2 (dim_keeps before line by.0 by.1 h)
+statement_keeps statement.Species before line said place is h =
     let by = said_by names (species_in before line) said is in subst (λ (s : Said). IsSoFar (s ∷ before)) by.2 (species_keeps before line by.0 by.1 h)
-statement_keeps statement.Difc before line said is h =
+statement_keeps statement.Difc before line said place is h =
     let by = said_by (λ given. moves given.0 given.1) (difc_in before line) said is in subst (λ (s : Said). IsSoFar (s ∷ before)) by.2 (moves_kept before by.0.0 by.0.1 h)
-statement_keeps statement.Difstep before line said is h =
+statement_keeps statement.Difstep before line said place is h =
     let by = said_by (λ given. moves given.0 given.1) (difstep_in before line) said is in subst (λ (s : Said). IsSoFar (s ∷ before)) by.2 (moves_kept before by.0.0 by.0.1 h)
-statement_keeps statement.TimeStart before line said is h =
+statement_keeps statement.TimeStart before line said place is h =
     let by = said_by starts (time_in (start_of before) line) said is in subst (λ (s : Said). IsSoFar (s ∷ before)) by.2 (starts_kept before by.0 (time_small (start_of before) line by.0 by.1) h)
-statement_keeps statement.TimeStop before line said is h =
+statement_keeps statement.TimeStop before line said place is h =
     let by = said_by stops (time_in (stop_of before) line) said is in subst (λ (s : Said). IsSoFar (s ∷ before)) by.2 (stops_kept before by.0 (time_small (stop_of before) line by.0 by.1) h)
-statement_keeps statement.TimeStep before line said is h =
+statement_keeps statement.TimeStep before line said place is h =
     let by = said_by steps (time_step_in before line) said is in subst (λ (s : Said). IsSoFar (s ∷ before)) by.2 (time_step_keeps before line by.0 by.1 h)
-statement_keeps statement.MaxMol before line said is h =
+statement_keeps statement.MaxMol before line said place is h =
     let by = said_by limits (max_mol_in before line) said is in subst (λ (s : Said). IsSoFar (s ∷ before)) by.2 (max_mol_keeps before line by.0 by.1 h)
-statement_keeps statement.RandomSeed before line said is h =
+statement_keeps statement.RandomSeed before line said place is h =
     let by = said_by seeds (random_seed_in before line) said is in subst (λ (s : Said). IsSoFar (s ∷ before)) by.2 (seeds_kept before by.0 h)
-statement_keeps statement.Boundaries before line said is h =
-    let by = said_by (λ given. walls given.0 given.1) (boundaries_in before line) said is in subst (λ (s : Said). IsSoFar (s ∷ before)) by.2 (boundaries_keep before line by.0 by.1 h)
-statement_keeps statement.Mol before line said is h =
-    let by = said_by places (mol_in before line) said is in subst (λ (s : Said). IsSoFar (s ∷ before)) by.2 (mol_keeps before line by.0 by.1 h)
-statement_keeps statement.Reaction before line said is h =
+statement_keeps statement.Boundaries before line said place is h =
+    let by = said_by (λ given. walls given.0 given.1) (boundaries_in (axes_of before) line) said is in subst (λ (s : Said). IsSoFar (s ∷ before)) by.2 (boundaries_keep before line by.0 by.1 h)
+statement_keeps statement.Mol before line said place is h =
+    let by = said_by places (mol_in (axes_of before) (species_of before) line) said is in subst (λ (s : Said). IsSoFar (s ∷ before)) by.2 (mol_keeps before line by.0 by.1 h)
+statement_keeps statement.CompartmentMol before line said place is h =
+    let by = said_by places (compartment_mol_in (axes_of before) (species_of before) (compartment_names (blocks_said before)) line) said is in
+    subst (λ (s : Said). IsSoFar (s ∷ before)) by.2 (compartment_mol_keeps before line by.0 by.1 place h)
+statement_keeps statement.Reaction before line said place is h =
     let by = said_by of_reactions (reaction_said (species_of before) (reactions_said before) line) said is in
     subst (λ (s : Said). IsSoFar (s ∷ before)) by.2 (of_reactions_kept before by.0 (reaction_keeps (dims_of before) (species_of before) (reactions_said before) line by.0 by.1 h.reactions) h)
-statement_keeps statement.BindingRadius before line said is h =
+statement_keeps statement.BindingRadius before line said place is h =
     let by = said_by of_reactions (binding_radius_said (reactions_said before) line) said is in
     subst (λ (s : Said). IsSoFar (s ∷ before)) by.2 (of_reactions_kept before by.0 (binding_radius_keeps (dims_of before) (length (species_of before)) (reactions_said before) line by.0 by.1 h.reactions) h)
-statement_keeps statement.ReactionProbability before line said is h =
+statement_keeps statement.ReactionProbability before line said place is h =
     let by = said_by of_reactions (reaction_probability_said (reactions_said before) line) said is in
     subst (λ (s : Said). IsSoFar (s ∷ before)) by.2 (of_reactions_kept before by.0 (reaction_probability_keeps (dims_of before) (length (species_of before)) (reactions_said before) line by.0 by.1 h.reactions) h)
-statement_keeps statement.ProductPlacement before line said is h =
+statement_keeps statement.ProductPlacement before line said place is h =
     let by = said_by of_reactions (product_placement_said (dims_of before) (species_of before) (reactions_said before) line) said is in
     subst (λ (s : Said). IsSoFar (s ∷ before)) by.2 (of_reactions_kept before by.0 (product_placement_keeps (dims_of before) (length (species_of before)) (species_of before) (reactions_said before) line by.0 by.1 h.reactions) h)
-statement_keeps statement.Cmd before line said is h =
-    let by = said_by performs (cmd_in before line) said is in subst (λ (s : Said). IsSoFar (s ∷ before)) by.2 (cmd_keeps before line by.0 by.1 h)
+statement_keeps (statement.Block one) before line said place is h =
+    let by = said_by of_blocks (block_line_in one (axes_of before) (species_of before) (blocks_said before) line) said is in
+    subst (λ (s : Said). IsSoFar (s ∷ before)) by.2 (block_keeps one before line by.0 by.1 h)
+statement_keeps statement.OutputFiles before line said place is h =
+    let by = said_by writes (output_files_in (outputs_of before) line) said is in
+    subst (λ (s : Said). IsSoFar (s ∷ before)) by.2 (writes_kept before by.0 (files_are_few (outputs_of before) line by.0 by.1) h)
+statement_keeps statement.Cmd before line said place is h =
+    let by = said_by performs (cmd_in (known_of before) (length (commands_of before)) line) said is in subst (λ (s : Said). IsSoFar (s ∷ before)) by.2 (cmd_keeps before line by.0 by.1 place h)
 
 pub line_keeps : (before : List Said) (line : Stated) (said : Said) → line_in before line ≡ Ok said → IsSoFar before → IsSoFar (said ∷ before)
 unfolding line_in
-line_keeps before line said is h = statement_keeps (statement_of (word_at line 0)) before line said is h
+line_keeps before line said is h =
+    let statement = statement_of (word_at line 0) in
+    let place = passed (unless (may_stand statement (stands_outside before)) kind.BadOrder) [] (statement_in statement before line) said is in
+    statement_keeps statement before line said (holds (may_stand statement (stands_outside before)) kind.BadOrder place.0) place.1 h

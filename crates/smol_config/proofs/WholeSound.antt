@@ -17,28 +17,31 @@ use Rattle.smol_types.specs.Reactions.{IsReaction}
 use Rattle.smol_types.specs.Sound.{IsSound}
 use Rattle.smol_types.specs.Steps.{last_step}
 use Rattle.smol_types.specs.Walls.{IsAxis, AreWalls}
+use Rattle.smol_line.specs.declared.axes.Bounds.{Bounds}
+use Rattle.smol_line.specs.Axes.{IsBounded, is_walled, walls_of}
 use Rattle.smol_line.specs.Checks.{unless, passing, there, with_value}
 use Rattle.smol_line.specs.Fault.{Fault, fault_at, at_line}
 use Rattle.smol_line.proofs.Passing.{passed, valued, holds, is_there}
+use Rattle.smol_blocks.specs.Blocks.{Block, no_block, in_surface, in_compartment, BlockSaid, block_of, compartments_of, opening_line, surfaces_of}
+use Rattle.smol_blocks.specs.BlocksSound.{AreBlocks, AreBlocksOf, IsBlock}
 use Rattle.smol_reactions.specs.Content.{chances_of, reaction_made, reactions_of, schemes_of}
 use Rattle.smol_reactions.proofs.Chances.{shared_at, shares_fit}
 use Rattle.smol_reactions.proofs.Lists.{length-numbered}
 use Rattle.smol_reactions.proofs.SoundSaid.{nothing_sound}
-use Rattle.smol_config.specs.declared.walls.Bounds.{Bounds}
 use Rattle.smol_config.specs.declared.whole.Needed.{Needed}
 use Rattle.smol_config.specs.Said.{Said}
-use Rattle.smol_config.specs.Dim.{dims_of}
+use Rattle.smol_config.specs.Axes.{axes_of, bounds_of, dims_of}
 use Rattle.smol_config.specs.Species.{species_of}
 use Rattle.smol_config.specs.Times.{start_of, stop_of, step_of}
 use Rattle.smol_config.specs.MaxMol.{max_mol_of, limit_of}
-use Rattle.smol_config.specs.Walls.{bounds_of, is_walled}
 use Rattle.smol_config.specs.Mol.{placings_of}
 use Rattle.smol_config.specs.Reactions.{reactions_said}
-use Rattle.smol_config.specs.Cmd.{commands_of}
-use Rattle.smol_config.specs.Content.{content_of, species_from, started, walls_of}
-use Rattle.smol_config.specs.Whole.{bounded, has_chances, has_difstep, has_few_steps, has_room, needed_in, whole_in}
+use Rattle.smol_config.specs.Blocks.{blocks_said, compartment_count}
+use Rattle.smol_config.specs.Commands.{commands_of, outputs_of}
+use Rattle.smol_config.specs.Content.{content_of, species_from, started}
+use Rattle.smol_config.specs.Whole.{bounded, has_chances, has_difstep, has_few_steps, has_room, needed_in, behind_blocks, closed_in, whole_in}
 use Rattle.smol_config.specs.Reader.{config_from, config_of, line_in, lines_in, read_from}
-use Rattle.smol_config.specs.SoFar.{IsBounded, IsSoFar}
+use Rattle.smol_config.specs.SoFar.{IsSoFar}
 use Rattle.smol_config.specs.Tables.{AreSmall}
 use Rattle.smol_config.proofs.Rules.{line_keeps}
 
@@ -122,7 +125,7 @@ unwalled dims axis used walled = let open_end : (nat_le dims axis || false) ≡ 
 
 -- the walls of all axes in use
 are_walls : (dims : ℕ) (x y z : Option Bounds) → 1 ≤ dims → dims ≤ 3 → is_walled dims 0 x ≡ true → is_walled dims 1 y ≡ true → is_walled dims 2 z ≡ true → IfSome x (IsBounded (Some dims) 0) → IfSome y (IsBounded (Some dims) 1) → IfSome z (IsBounded (Some dims) 2)
-    → AreWalls 0 (walls_of x y z) × (length (walls_of x y z) ≡ 2 * dims)
+    → AreWalls 0 (walls_of (record { dims = Some dims; x = x; y = y; z = z })) × (length (walls_of (record { dims = Some dims; x = x; y = y; z = z })) ≡ 2 * dims)
 unfolding walls_of
 are_walls dims None y z least most has_x has_y has_z sound_x sound_y sound_z = absurd (unwalled dims 0 (omega arith) has_x)
 are_walls dims (Some x) None None least most has_x has_y has_z sound_x sound_y sound_z =
@@ -160,24 +163,34 @@ near_all species near =
     All-weaker (λ (one : Species). has_difstep one ≡ true) (λ (one : Species). one.step ≤ 1000000000) (λ one passes. grind (arith, nat_tests)) species
     (AllPass-from_list_all has_difstep species near)
 
+-- there are no more surfaces and compartments than there may be, whatever block is open
+blocks_fit : (dims : ℕ) (said : List BlockSaid) → AreBlocks (Some dims) said → (length (surfaces_of said) ≤ 256) × (length (compartments_of said) ≤ 64) × AreBlocksOf dims said
+blocks_fit dims said sound = by (block_of said) sound.block
+  where
+    by : (block : Block) → IsBlock dims said block → (length (surfaces_of said) ≤ 256) × (length (compartments_of said) ≤ 64) × AreBlocksOf dims said
+    by no_block is = let surfaces = sound.surface_count in let compartments = sound.compartment_count in let a = is.0 in let b = is.1 in (omega arith, omega arith, sound)
+    by (in_surface opened lines) is = let surfaces = sound.surface_count in let compartments = sound.compartment_count in let a = is.0 in let b = is.1 in (omega arith, omega arith, sound)
+    by (in_compartment opened lines) is = let surfaces = sound.surface_count in let compartments = sound.compartment_count in let a = is.0 in let b = is.1 in (omega arith, omega arith, sound)
+
 -- what lines without a fault say together is sound
 content_is_sound : (before : List Said) (needed : Needed) → IsSoFar before → needed_in before ≡ Ok needed → has_few_steps (content_of needed before) ≡ true → list_all has_difstep (content_of needed before).species ≡ true → has_room (content_of needed before) ≡ true → has_chances (chances_of (reactions_said before)) (content_of needed before) ≡ true → IsSound (content_of needed before)
-unfolding content_of
+unfolding content_of walls_of
 content_is_sound before needed h is few near room shared =
     let given = needed_is before needed is in
-    let axes = rw given.0 at h.dims in
+    let axes = rw given.0 at h.axes.dims in
     let stop = rw given.4 at h.stop in
     let step = rw given.5 at h.step in
     let start = time_within (start_of before) h.start in
     let most = limit_within (max_mol_of before) h.max_mol in
     let Q : ℕ → Option Bounds → Option ℕ → Type 0 = λ axis bounds dims. IfSome bounds (IsBounded dims axis) in
     let walls = are_walls needed.dims (bounds_of 0 before) (bounds_of 1 before) (bounds_of 2 before) axes.0 axes.1 given.1 given.2 given.3
-    (subst (Q 0 (bounds_of 0 before)) given.0 h.x) (subst (Q 1 (bounds_of 1 before)) given.0 h.y) (subst (Q 2 (bounds_of 2 before)) given.0 h.z) in
+    (subst (Q 0 (bounds_of 0 before)) given.0 h.axes.x) (subst (Q 1 (bounds_of 1 before)) given.0 h.axes.y) (subst (Q 2 (bounds_of 2 before)) given.0 h.axes.z) in
     let count = length-species_from needed.step before 0 (species_of before) in
-    let around = walls_of (bounds_of 0 before) (bounds_of 1 before) (bounds_of 2 before) in
-    let Placed : ℕ → Type 0 = λ species. All (IsPlacing species 0 around) (placings_of before) in
-    let Commanded : ℕ → Type 0 = λ species. All (IsCommand species 0 0 around) (commands_of before) in
+    let around = walls_of (axes_of before) in
+    let Placed : ℕ → Type 0 = λ species. All (IsPlacing species (compartment_count before) around) (placings_of before) in
+    let Commanded : ℕ → Type 0 = λ species. All (IsCommand species (compartment_count before) (length (outputs_of before)) around) (commands_of before) in
     let Reacting : ℕ → Type 0 = λ species. All (IsReaction needed.dims species) (reactions_of (reactions_said before)) in
+    let blocks = blocks_fit needed.dims (blocks_said before) (rw given.0 at h.blocks) in
     let few_species = h.species in record {
       dims_above = axes.0;
       dims_below = axes.1;
@@ -185,18 +198,18 @@ content_is_sound before needed h is few near room shared =
       difsteps = near_all (content_of needed before).species near;
       walls = walls.0;
       wall_count = walls.1;
-      surface_count = omega arith;
-      panel_count = omega arith;
-      panels = λ k d within. absurd (omega arith);
-      compartment_count = omega arith;
-      compartments = λ k d within. absurd (omega arith);
+      surface_count = blocks.0;
+      panel_count = blocks.2.panel_count;
+      panels = blocks.2.panels;
+      compartment_count = blocks.1;
+      compartments = blocks.2.compartments;
       reaction_count = subst (λ (n : ℕ). n ≤ 1024) (sym (length-numbered (reaction_made (reactions_said before)) 0 (schemes_of (reactions_said before)))) h.reactions.count;
       reactions = subst Reacting (sym count) (h.reactions.all needed.dims (subst (λ (dims : Option ℕ). IfSome dims (λ (given : ℕ). given ≡ needed.dims)) (sym given.0) refl));
       shares = λ species within. shares_fit species (reactions_said before) (shared_at (length (content_of needed before).species) species (reactions_of (reactions_said before)) (chances_of (reactions_said before)) shared within);
       placings = subst Placed (sym count) h.placings;
       command_count = h.command_count;
       commands = subst Commanded (sym count) h.commands;
-      output_count = omega arith;
+      output_count = h.outputs;
       start = start;
       stop = stop;
       step = step.0;
@@ -207,30 +220,39 @@ content_is_sound before needed h is few near room shared =
       placed = roomy (sum_by placed_by (placings_of before)) (limit_of (max_mol_of before)) room;
     }
 
--- what the whole file says is sound
-pub whole_is_sound : (before : List Said) (draft : Draft) → IsSoFar before → whole_in before ≡ Ok draft → IsSound draft
-unfolding whole_in
-whole_is_sound before draft h is =
+-- what a file says whose blocks are closed is sound
+pub closed_is_sound : (before : List Said) (draft : Draft) → IsSoFar before → closed_in before ≡ Ok draft → IsSound draft
+unfolding closed_in
+closed_is_sound before draft h is =
     let chances = chances_of (reactions_said before) in
     let needed = valued (needed_in before) (λ needed. bounded chances (content_of needed before)) draft (in_line 0 (with_value (needed_in before) (λ needed. bounded chances (content_of needed before))) draft is) in
     let by = bounded_is chances (content_of needed.0 before) draft needed.2 in
     subst IsSound by.0 (content_is_sound before needed.0 h needed.1 by.1 by.2 by.3 by.4)
 
+-- a file that says something has no open block at its end
+closed_by : (open_line : Option ℕ) (closed : Result Draft Fault) (draft : Draft) → behind_blocks open_line closed ≡ Ok draft → closed ≡ Ok draft
+closed_by None closed draft is = is
+closed_by (Some line) closed draft is = absurd cc
+
+-- what the whole file says is sound
+whole_is_sound : (before : List Said) (draft : Draft) → IsSoFar before → whole_in before ≡ Ok draft → IsSound draft
+unfolding whole_in
+whole_is_sound before draft h is = closed_is_sound before draft h (closed_by (opening_line (block_of (blocks_said before))) (closed_in before) draft is)
+
 -- so far nothing is said
 pub nothing_yet : IsSoFar []
 nothing_yet = record {
-  dims = tt;
+  axes = record { dims = tt; x = tt; y = tt; z = tt };
   species = omega arith;
   start = tt;
   stop = tt;
   step = tt;
   max_mol = tt;
-  x = tt;
-  y = tt;
-  z = tt;
   settled = λ some. absurd (omega arith);
   placings = λ k d within. absurd (omega arith);
   reactions = nothing_sound None 0;
+  blocks = refl;
+  outputs = omega arith;
   command_count = omega arith;
   commands = λ k d within. absurd (omega arith);
 }
@@ -255,17 +277,17 @@ accepted_is_sound text draft is =
     whole_is_sound all.0 draft (lines_keep [] lines.0 all.0 all.1 nothing_yet) all.2
 
 -- how the tests of the whole file end
-pub whole_ok : (before : List Said) (needed : Needed) (draft : Draft) → needed_in before ≡ Ok needed → bounded (chances_of (reactions_said before)) (content_of needed before) ≡ Ok draft → whole_in before ≡ Ok draft
-unfolding whole_in
-whole_ok before needed draft is passes = rw (is, passes) refl
+pub closed_ok : (before : List Said) (needed : Needed) (draft : Draft) → needed_in before ≡ Ok needed → bounded (chances_of (reactions_said before)) (content_of needed before) ≡ Ok draft → closed_in before ≡ Ok draft
+unfolding closed_in
+closed_ok before needed draft is passes = rw (is, passes) refl
 
-pub whole_missing : (before : List Said) (why : Kind) → needed_in before ≡ Err why → whole_in before ≡ Err (fault_at 0 why)
-unfolding whole_in
-whole_missing before why is = rw is refl
+pub closed_missing : (before : List Said) (why : Kind) → needed_in before ≡ Err why → closed_in before ≡ Err (fault_at 0 why)
+unfolding closed_in
+closed_missing before why is = rw is refl
 
-pub whole_excess : (before : List Said) (needed : Needed) (why : Kind) → needed_in before ≡ Ok needed → bounded (chances_of (reactions_said before)) (content_of needed before) ≡ Err why → whole_in before ≡ Err (fault_at 0 why)
-unfolding whole_in
-whole_excess before needed why is fails = rw (is, fails) refl
+pub closed_excess : (before : List Said) (needed : Needed) (why : Kind) → needed_in before ≡ Ok needed → bounded (chances_of (reactions_said before)) (content_of needed before) ≡ Err why → closed_in before ≡ Err (fault_at 0 why)
+unfolding closed_in
+closed_excess before needed why is fails = rw (is, fails) refl
 
 -- walls that hold so far are of lengths that there are
 pub small_walls : (dims : Option ℕ) (axis : ℕ) (given bounds : Option Bounds) → given ≡ bounds → IfSome bounds (IsBounded dims axis) → IfSome given AreSmall

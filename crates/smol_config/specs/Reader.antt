@@ -6,13 +6,17 @@ use Rattle.smol_types.specs.declared.fault.Kind.{Kind}
 use Rattle.smol_types.specs.declared.fault.Kind.TheVariants as kind
 use Rattle.smol_line.specs.Fault.{Fault, fault_at, at_line}
 use Rattle.smol_line.specs.Words.{word_at}
-use Rattle.smol_line.specs.Checks.{with_value}
+use Rattle.smol_line.specs.Checks.{unless, passing, with_value}
+use Rattle.smol_blocks.specs.Blocks.{block_line_in, compartment_names}
+use Rattle.smol_cmd.specs.Cmd.{cmd_in}
+use Rattle.smol_cmd.specs.OutputFiles.{output_files_in}
 use Rattle.smol_reactions.specs.Statements.{binding_radius_said, product_placement_said, reaction_probability_said, reaction_said}
 use Rattle.smol_config.specs.declared.statement.Statement.{Statement}
-use Rattle.smol_config.specs.declared.statement.Statement.TheVariants.{PassedOver, NotInProfile, Unknown, Dim, Species, Difc, Difstep, TimeStart, TimeStop, TimeStep, MaxMol, RandomSeed, Boundaries, Mol, Reaction, BindingRadius, ReactionProbability, ProductPlacement, Cmd}
-use Rattle.smol_config.specs.Statement.{statement_of}
-use Rattle.smol_config.specs.Said.{Said, passed_over, axes, names, moves, starts, stops, steps, limits, seeds, walls, places, of_reactions, performs, say}
-use Rattle.smol_config.specs.Dim.{dim_in, dims_of}
+use Rattle.smol_config.specs.declared.statement.Statement.TheVariants.{PassedOver, NotInProfile, Unknown, Dim, Species, Difc, Difstep, TimeStart, TimeStop, TimeStep, MaxMol, RandomSeed, Boundaries, Mol, CompartmentMol, Reaction, BindingRadius, ReactionProbability, ProductPlacement, Block, OutputFiles, Cmd}
+use Rattle.smol_config.specs.Statement.{may_stand, statement_of}
+use Rattle.smol_config.specs.Said.{Said, passed_over, axes, names, moves, starts, stops, steps, limits, seeds, walls, places, of_reactions, of_blocks, writes, performs, say}
+use Rattle.smol_config.specs.Axes.{axes_of, dims_of}
+use Rattle.smol_config.specs.Dim.{dim_in}
 use Rattle.smol_config.specs.Species.{species_in, species_of}
 use Rattle.smol_config.specs.Motion.{difc_in, difstep_in}
 use Rattle.smol_config.specs.Times.{start_of, stop_of, time_in, time_step_in}
@@ -21,7 +25,9 @@ use Rattle.smol_config.specs.RandomSeed.{random_seed_in}
 use Rattle.smol_config.specs.Boundaries.{boundaries_in}
 use Rattle.smol_config.specs.Mol.{mol_in}
 use Rattle.smol_config.specs.Reactions.{reactions_said}
-use Rattle.smol_config.specs.Cmd.{cmd_in}
+use Rattle.smol_config.specs.Blocks.{blocks_said, stands_outside}
+use Rattle.smol_config.specs.CompartmentMol.{compartment_mol_in}
+use Rattle.smol_config.specs.Commands.{commands_of, known_of, outputs_of}
 use Rattle.smol_config.specs.Whole.{whole_in}
 
 -- what a line says that makes this statement, or its fault
@@ -29,7 +35,7 @@ unfoldable pub statement_in : Statement → List Said → Stated → Result Said
 statement_in PassedOver before line = Ok passed_over
 statement_in NotInProfile before line = Err kind.NotInProfile
 statement_in Unknown before line = Err kind.UnknownStatement
-statement_in Dim before line = say axes (dim_in before line)
+statement_in Dim before line = say axes (dim_in (axes_of before) line)
 statement_in Species before line = say names (species_in before line)
 statement_in Difc before line = say (λ given. moves given.0 given.1) (difc_in before line)
 statement_in Difstep before line = say (λ given. moves given.0 given.1) (difstep_in before line)
@@ -38,17 +44,26 @@ statement_in TimeStop before line = say stops (time_in (stop_of before) line)
 statement_in TimeStep before line = say steps (time_step_in before line)
 statement_in MaxMol before line = say limits (max_mol_in before line)
 statement_in RandomSeed before line = say seeds (random_seed_in before line)
-statement_in Boundaries before line = say (λ given. walls given.0 given.1) (boundaries_in before line)
-statement_in Mol before line = say places (mol_in before line)
+statement_in Boundaries before line = say (λ given. walls given.0 given.1) (boundaries_in (axes_of before) line)
+statement_in Mol before line = say places (mol_in (axes_of before) (species_of before) line)
+statement_in CompartmentMol before line =
+    say places (compartment_mol_in (axes_of before) (species_of before) (compartment_names (blocks_said before)) line)
 statement_in Reaction before line = say of_reactions (reaction_said (species_of before) (reactions_said before) line)
 statement_in BindingRadius before line = say of_reactions (binding_radius_said (reactions_said before) line)
 statement_in ReactionProbability before line = say of_reactions (reaction_probability_said (reactions_said before) line)
 statement_in ProductPlacement before line = say of_reactions (product_placement_said (dims_of before) (species_of before) (reactions_said before) line)
-statement_in Cmd before line = say performs (cmd_in before line)
+statement_in (Block one) before line = say of_blocks (block_line_in one (axes_of before) (species_of before) (blocks_said before) line)
+statement_in OutputFiles before line = say writes (output_files_in (outputs_of before) line)
+statement_in Cmd before line = say performs (cmd_in (known_of before) (length (commands_of before)) line)
+
+-- the same, where the place of the statement is tested first
+abbrev pub placed_in : Statement → List Said → Stated → Result Said Kind
+placed_in statement before line =
+    passing (unless (may_stand statement (stands_outside before)) kind.BadOrder ∷ []) (statement_in statement before line)
 
 -- what a line says behind these, or its fault
 unfoldable pub line_in : List Said → Stated → Result Said Kind
-line_in before line = statement_in (statement_of (word_at line 0)) before line
+line_in before line = placed_in (statement_of (word_at line 0)) before line
 
 -- what all lines say, read on behind these. The first line with a fault ends the reading
 abbrev pub read_from : List Said → List Stated → Result (List Said) Fault

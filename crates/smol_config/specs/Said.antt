@@ -3,10 +3,11 @@ use Rattle.std.specs.Prelude.{ℕ, ℤ, List, [], ◌∷◌, ◌++◌, Option, N
 use Rattle.smol_types.specs.declared.fault.Kind.{Kind}
 use Rattle.smol_types.specs.declared.placing.Placing.{Placing}
 use Rattle.smol_types.specs.declared.command.Command.{Command}
+use Rattle.smol_line.specs.declared.axes.Bounds.{Bounds}
 use Rattle.smol_line.specs.declared.species_word.Chosen.{Chosen}
 use Rattle.smol_reactions.specs.ReactionSaid.{ReactionSaid}
+use Rattle.smol_blocks.specs.Blocks.{BlockSaid}
 use Rattle.smol_config.specs.declared.motion.Motion.{Motion}
-use Rattle.smol_config.specs.declared.walls.Bounds.{Bounds}
 
 pub data Said : Type 0 where
   -- nothing, as the line is passed over
@@ -31,6 +32,10 @@ pub data Said : Type 0 where
   places : Placing → Said
   -- this of a reaction
   of_reactions : ReactionSaid → Said
+  -- this of a block
+  of_blocks : BlockSaid → Said
+  -- these are the names of further output files
+  writes : List (List ℕ) → Said
   -- this command is performed
   performs : Command → Said
 

@@ -1,9 +1,11 @@
 -- The first word of a line, and the statement that it makes.
-use Rattle.std.specs.Prelude.{ℕ, List, [], ◌∷◌, if◌then◌else◌, codes}
+use Rattle.std.specs.Prelude.{ℕ, Bool, true, List, [], ◌∷◌, if◌then◌else◌, codes}
 use Rattle.std.specs.List.{list_any}
 use Rattle.std.specs.Str.{bytes_eq}
 use Rattle.smol_config.specs.declared.statement.Statement.{Statement}
-use Rattle.smol_config.specs.declared.statement.Statement.TheVariants.{PassedOver, NotInProfile, Unknown, Dim, Species, Difc, Difstep, TimeStart, TimeStop, TimeStep, MaxMol, RandomSeed, Boundaries, Mol, Reaction, BindingRadius, ReactionProbability, ProductPlacement, Cmd}
+use Rattle.smol_config.specs.declared.statement.Statement.TheVariants.{PassedOver, NotInProfile, Unknown, Dim, Species, Difc, Difstep, TimeStart, TimeStop, TimeStep, MaxMol, RandomSeed, Boundaries, Mol, CompartmentMol, Reaction, BindingRadius, ReactionProbability, ProductPlacement, Block, OutputFiles, Cmd}
+use Rattle.smol_blocks.specs.declared.block_statement.BlockStatement.TheVariants.{StartSurface, InSurface, EndSurface, StartCompartment, Surface, Point, EndCompartment}
+use Rattle.smol_blocks.specs.declared.surface_statement.SurfaceStatement.TheVariants.{Action, Panel, Jump}
 
 -- the words of the statements that are read
 abbrev pub built : List (List ℕ × Statement)
@@ -19,10 +21,21 @@ built =
     ∷ (codes "random_seed", RandomSeed)
     ∷ (codes "boundaries", Boundaries)
     ∷ (codes "mol", Mol)
+    ∷ (codes "compartment_mol", CompartmentMol)
     ∷ (codes "reaction", Reaction)
     ∷ (codes "binding_radius", BindingRadius)
     ∷ (codes "reaction_probability", ReactionProbability)
     ∷ (codes "product_placement", ProductPlacement)
+    ∷ (codes "start_surface", Block StartSurface)
+    ∷ (codes "action", Block (InSurface Action))
+    ∷ (codes "panel", Block (InSurface Panel))
+    ∷ (codes "jump", Block (InSurface Jump))
+    ∷ (codes "end_surface", Block EndSurface)
+    ∷ (codes "start_compartment", Block StartCompartment)
+    ∷ (codes "surface", Block Surface)
+    ∷ (codes "point", Block Point)
+    ∷ (codes "end_compartment", Block EndCompartment)
+    ∷ (codes "output_files", OutputFiles)
     ∷ (codes "cmd", Cmd)
     ∷ []
 
@@ -108,3 +121,11 @@ statement_of word =
     if list_any (bytes_eq word) passed_over_words
     then PassedOver
     else (if list_any (bytes_eq word) left_out_words then NotInProfile else named built word)
+
+-- a statement may stand where it does, by whether no block is open. Those of blocks test their own place, and other lines are judged in blocks as outside
+abbrev pub may_stand : Statement → Bool → Bool
+may_stand PassedOver outside = true
+may_stand NotInProfile outside = true
+may_stand Unknown outside = true
+may_stand (Block one) outside = true
+may_stand other outside = outside

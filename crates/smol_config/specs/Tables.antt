@@ -1,37 +1,40 @@
 -- What the reader keeps of the lines read so far. This is no part of what a text means.
-use Rattle.std.specs.Prelude.{◌≡◌, ◌≤◌, ◌+◌, ℕ, ℤ, unsigned_abs, List, [], ◌∷◌, length, Option, None, Result, Ok, Err, slice_index_or}
+use Rattle.std.specs.Prelude.{◌≡◌, ◌≤◌, ◌+◌, ◌==◌, ℕ, ℤ, unsigned_abs, true, List, [], ◌∷◌, length, Some, Result, Ok, Err, slice_index_or, if◌then◌else◌}
 use Rattle.smol_text.specs.Reading.{Stated}
+use Rattle.smol_types.specs.declared.draft.Draft.{Draft}
 use Rattle.smol_types.specs.declared.fault.Kind.{Kind}
+use Rattle.smol_types.specs.Limits.{most_outputs, most_species}
 use Rattle.smol_types.specs.declared.species.Species.{Species as TheSpecies}
+use Rattle.smol_line.specs.declared.axes.Axes.{Axes}
+use Rattle.smol_line.specs.declared.axes.Bounds.{Bounds}
+use Rattle.smol_line.specs.Axes.{AreAxes}
 use Rattle.smol_line.specs.Length.{most_micros}
 use Rattle.smol_line.specs.declared.refusal.Refusal.{Refusal}
 use Rattle.smol_line.specs.declared.refusal.Refusal.TheVariants.{At, OutOfMemory}
+use Rattle.smol_blocks.specs.BlocksTable.{Holds as HoldsBlocks, IsKept as AreBlocksKept}
 use Rattle.smol_reactions.specs.Table.{Holds as HoldsReactions, IsKept}
 use Rattle.smol_config.specs.declared.motion.Motion.{Motion}
+use Rattle.smol_config.specs.declared.statement.Statement.{Statement}
 use Rattle.smol_config.specs.declared.tables.Tables.{Tables}
-use Rattle.smol_config.specs.declared.walls.Bounds.{Bounds}
+use Rattle.smol_config.specs.declared.whole.Needed.{Needed}
+use Rattle.smol_config.specs.declared.whole.Parts.{Parts}
 use Rattle.smol_config.specs.Said.{Said}
-use Rattle.smol_config.specs.Dim.{dims_of}
+use Rattle.smol_config.specs.Axes.{axes_of}
 use Rattle.smol_config.specs.Species.{species_of}
 use Rattle.smol_config.specs.Motion.{still, motion_of, difstep_of}
 use Rattle.smol_config.specs.Times.{start_of, stop_of, step_of}
-use Rattle.smol_config.specs.MaxMol.{max_mol_of}
+use Rattle.smol_config.specs.MaxMol.{limit_of, max_mol_of}
 use Rattle.smol_config.specs.RandomSeed.{seed_of}
-use Rattle.smol_config.specs.Walls.{bounds_of}
 use Rattle.smol_config.specs.Mol.{placings_of}
 use Rattle.smol_config.specs.Reactions.{reactions_said}
-use Rattle.smol_config.specs.Cmd.{commands_of}
+use Rattle.smol_config.specs.Blocks.{blocks_said, stands_outside}
+use Rattle.smol_config.specs.Commands.{commands_of, outputs_of}
+use Rattle.smol_config.specs.Statement.{may_stand}
 use Rattle.smol_config.specs.SoFar.{IsSoFar}
-
--- these are the walls of the three axes that the lines before give
-pub record AreBounds (bounds : List (Option Bounds)) (before : List Said) : Type 0 where
-  pub x : slice_index_or bounds 0 None ≡ bounds_of 0 before
-  pub y : slice_index_or bounds 1 None ≡ bounds_of 1 before
-  pub z : slice_index_or bounds 2 None ≡ bounds_of 2 before
 
 -- each table is its look-up over what the lines so far say
 pub record Holds (tables : Tables) (before : List Said) : Type 0 where
-  pub dims : tables.dims ≡ dims_of before
+  pub axes : tables.axes ≡ axes_of before
   pub species : tables.species.names ≡ species_of before
   pub motions : (number : ℕ) → slice_index_or tables.species.motions.items number still ≡ motion_of number before
   pub start : tables.start ≡ start_of before
@@ -39,11 +42,12 @@ pub record Holds (tables : Tables) (before : List Said) : Type 0 where
   pub step : tables.step ≡ step_of before
   pub max_mol : tables.max_mol ≡ max_mol_of before
   pub seed : tables.seed ≡ seed_of before
-  pub axes : length tables.bounds ≡ 3
-  pub bounds : AreBounds tables.bounds before
   pub placings : tables.placings ≡ placings_of before
   pub reactions : HoldsReactions tables.reactions (reactions_said before)
   pub kept : IsKept tables.reactions
+  pub blocks : HoldsBlocks tables.blocks (blocks_said before)
+  pub blocks_kept : AreBlocksKept (length tables.species.names) tables.blocks
+  pub outputs : tables.outputs ≡ outputs_of before
   pub commands : tables.commands ≡ commands_of before
 
 -- how the reading of a line ends: it is taken and the tables hold what it says too, or its fault is told, or memory ran out
@@ -53,9 +57,32 @@ Reads rule line old new (Ok done) =
 Reads rule line old new (Err (At kind)) = (before : List Said) → Holds old before → rule before line ≡ Err kind
 Reads rule line old new (Err OutOfMemory) = Unit {0}
 
+-- the parts of the tables fit each other, and no more is in them than there may be
+pub record AreReady (tables : Tables) : Type 0 where
+  pub axes : AreAxes tables.axes
+  pub species : length tables.species.names ≤ most_species
+  pub reactions : IsKept tables.reactions
+  pub blocks : AreBlocksKept (length tables.species.names) tables.blocks
+  pub outputs : length tables.outputs ≤ most_outputs
+
+-- no block is open, by what the tables hold
+abbrev pub IsOutside : Tables → Type 0
+IsOutside tables = (before : List Said) → Holds tables before → stands_outside before ≡ true
+
+-- a statement may stand where it does, by what the tables hold
+abbrev pub IsInPlace : Statement → Tables → Type 0
+IsInPlace statement tables = (before : List Said) → Holds tables before → may_stand statement (stands_outside before) ≡ true
+
 -- the tables hold what lines without a fault say
 abbrev pub IsReached : Tables → Type 0
 IsReached tables = (before : List Said) × Holds tables before × IsSoFar before
+
+-- the axes with these walls of one of them more
+abbrev pub with_bounds : ℕ → Bounds → Axes → Axes
+with_bounds axis bounds axes =
+    if axis == 0
+    then record axes { x = Some bounds }
+    else (if axis == 1 then record axes { y = Some bounds } else record axes { z = Some bounds })
 
 -- walls of lengths that there are
 pub record AreSmall (bounds : Bounds) : Type 0 where
@@ -67,3 +94,23 @@ abbrev pub species_made : ℤ → List Motion → ℕ → List (List ℕ) → Li
 species_made time motions number [] = []
 species_made time motions number (name ∷ names) =
     record { name = name; step = difstep_of time (slice_index_or motions number still) } ∷ species_made time motions (number + 1) names
+
+-- the draft of these parts and of what the tables hand over
+abbrev pub drafted : Needed → Parts → Tables → Draft
+drafted needed parts tables = record {
+  dims = needed.dims;
+  species = parts.species;
+  walls = parts.walls;
+  surfaces = tables.blocks.surfaces;
+  panels = tables.blocks.panels;
+  compartments = tables.blocks.compartments;
+  reactions = tables.reactions.list.items;
+  placings = tables.placings;
+  commands = tables.commands;
+  outputs = parts.outputs;
+  start = parts.start;
+  stop = needed.stop;
+  step = needed.step;
+  max_mol = limit_of tables.max_mol;
+  seed = tables.seed;
+}

@@ -1,23 +1,25 @@
 -- The tests of the whole file, after its last line: what is missing, and what is too much.
-use Rattle.std.specs.Prelude.{ℕ, Bool, nat_le, sum_by, List, [], ◌∷◌, length, Option, Result, Ok}
+use Rattle.std.specs.Prelude.{ℕ, Bool, nat_le, sum_by, List, [], ◌∷◌, length, Option, None, Some, Result, Ok, Err}
 use Rattle.std.specs.List.{list_all}
 use Rattle.smol_types.specs.declared.fault.Kind.{Kind}
-use Rattle.smol_types.specs.declared.fault.Kind.TheVariants.{Missing, OutOfRange, ProbabilitySum, TooMany}
+use Rattle.smol_types.specs.declared.fault.Kind.TheVariants.{Missing, OpenBlock, OutOfRange, ProbabilitySum, TooMany}
 use Rattle.smol_types.specs.declared.fault.Need.TheVariants.{Dim, Boundaries, TimeStop, TimeStep}
 use Rattle.smol_types.specs.declared.draft.Draft.{Draft}
 use Rattle.smol_types.specs.declared.species.Species.{Species}
 use Rattle.smol_types.specs.Limits.{longest, most_steps}
 use Rattle.smol_types.specs.Placings.{placed_by}
 use Rattle.smol_types.specs.Steps.{last_step}
-use Rattle.smol_line.specs.Fault.{Fault, at_line}
+use Rattle.smol_line.specs.Axes.{is_walled}
+use Rattle.smol_line.specs.Fault.{Fault, fault_at, at_line}
 use Rattle.smol_line.specs.Checks.{unless, passing, with_value, there}
+use Rattle.smol_blocks.specs.Blocks.{block_of, opening_line}
 use Rattle.smol_reactions.specs.Content.{are_shared, chances_of}
 use Rattle.smol_config.specs.declared.whole.Needed.{Needed}
 use Rattle.smol_config.specs.Said.{Said}
-use Rattle.smol_config.specs.Dim.{dims_of}
+use Rattle.smol_config.specs.Axes.{bounds_of, dims_of}
 use Rattle.smol_config.specs.Times.{stop_of, step_of}
-use Rattle.smol_config.specs.Walls.{bounds_of, is_walled}
 use Rattle.smol_config.specs.Reactions.{reactions_said}
+use Rattle.smol_config.specs.Blocks.{blocks_said}
 use Rattle.smol_config.specs.Content.{content_of}
 
 -- what a file can't do without: the number of axes, their walls, the time at which the run stops, and that of a step
@@ -60,6 +62,15 @@ bounded chances draft =
     ∷ [])
     (Ok draft)
 
+-- what a file says whose blocks are closed, or the fault of the whole
+unfoldable pub closed_in : List Said → Result Draft Fault
+closed_in before = at_line 0 (with_value (needed_in before) (λ needed. bounded (chances_of (reactions_said before)) (content_of needed before)))
+
+-- a block that is open at the end comes first, as a fault of the line that opened it
+abbrev pub behind_blocks : Option ℕ → Result Draft Fault → Result Draft Fault
+behind_blocks None closed = closed
+behind_blocks (Some line) closed = Err (fault_at line OpenBlock)
+
 -- what a file says, or the fault of the whole
 unfoldable pub whole_in : List Said → Result Draft Fault
-whole_in before = at_line 0 (with_value (needed_in before) (λ needed. bounded (chances_of (reactions_said before)) (content_of needed before)))
+whole_in before = behind_blocks (opening_line (block_of (blocks_said before))) (closed_in before)

@@ -1,12 +1,9 @@
 //! `boundaries AXIS LOW HIGH [LETTER]`: the two walls of an axis, and what they do.
-ghost use Rattle.std.specs.Prelude.{◌≡◌, ◌<◌, List, IfOk};
-ghost use Rattle.smol_config.specs.Said.{Said};
-ghost use Rattle.smol_config.specs.Dim.{dims_of};
-ghost use Rattle.smol_config.specs.Boundaries.{boundaries_in, bounds_in, letter_in, line_letter};
-ghost use Rattle.smol_config.specs.Tables.{AreBounds};
+ghost use Rattle.std.specs.Prelude.{◌≡◌, ◌<◌, IfOk};
+ghost use Rattle.smol_config.specs.Boundaries.{boundaries_in, bounds_at, bounds_in, letter_in, line_letter};
+ghost use Rattle.smol_config.specs.Tables.{with_bounds};
 
-use crate::walls::{Bounds, needs_dim};
-use smol_line::{axis_in, micros_in, once, spells, unless, word_at};
+use smol_line::{Axes, Bounds, axis_in, micros_in, needs_dim, once, spells, unless, word_at};
 use smol_num::Micro;
 use smol_text::StatedLine;
 use smol_types::{Kind, Letter};
@@ -55,20 +52,42 @@ fn bounds_in(line: &StatedLine<'_>) -> Result<Bounds, Kind>
     })
 }
 
+// The walls of an axis, by its number.
+fn bounds_at(axis: u8, axes: &Axes) -> Option<Bounds>
+    ensures { result ≡ bounds_at axis axes.now }
+{
+    if axis == 0 {
+        axes.x
+    } else if axis == 1 {
+        axes.y
+    } else {
+        axes.z
+    }
+}
+
+/// Lets an axis have these walls.
+pub fn set_bounds(axis: u8, bounds: Bounds, axes: &mut Axes)
+    ensures { axes.new ≡ with_bounds axis bounds axes.old }
+{
+    if axis == 0 {
+        axes.x = Some(bounds);
+    } else if axis == 1 {
+        axes.y = Some(bounds);
+    } else {
+        axes.z = Some(bounds);
+    }
+}
+
 /// The walls that a line gives, and their axis, by what the lines before give.
-#[tactic(auto, using(crate::proofs::Held::bounds_at), unfolding(crate::specs::Boundaries::boundaries_in))]
-pub fn judge(
-    dims: Option<u8>,
-    bounds: &[Option<Bounds>; 3],
-    line: &StatedLine<'_>,
-) -> Result<(u8, Bounds), Kind>
-    ensures rule { (before : List Said) → dims ≡ dims_of before → AreBounds bounds.now before → result ≡ boundaries_in before line.now }
+#[tactic(auto, unfolding(crate::specs::Boundaries::boundaries_in))]
+pub fn judge(axes: &Axes, line: &StatedLine<'_>) -> Result<(u8, Bounds), Kind>
+    ensures rule { result ≡ boundaries_in axes.now line.now }
     ensures within { IfOk result (λ given. given.0 < 3) }
 {
-    let dims = needs_dim(dims)?;
+    let dims = needs_dim(axes)?;
     unless(line.len() == 4 || line.len() == 5, Kind::WrongWordCount)?;
     let axis = axis_in(dims, word_at(line, 1))?;
     let given = bounds_in(line)?;
-    once(&bounds[axis as usize])?;
+    once(&bounds_at(axis, axes))?;
     Ok((axis, given))
 }

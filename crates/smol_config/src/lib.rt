@@ -2,7 +2,7 @@
 #![tactic(auto)]
 
 mod boundaries;
-mod cmd;
+mod compartment_mol;
 mod dim;
 mod law;
 mod max_mol;
@@ -17,7 +17,6 @@ mod tables;
 #[cfg(test)]
 mod tests;
 mod times;
-mod walls;
 mod whole;
 
 pub use law::accepted_texts_are_sound;

@@ -1,9 +1,12 @@
 //! The whole reader.
-ghost use Rattle.std.specs.Prelude.{◌≡◌, [], Ok, IfOk, IfErr};
+ghost use Rattle.std.specs.Prelude.{◌≡◌, [], List, Ok, IfOk, IfErr};
 ghost use Rattle.smol_text.specs.Reading.{TellsLines, statements_of};
 ghost use Rattle.smol_text.specs.Spans.{stated_lines};
 ghost use Rattle.smol_line.specs.Fault.{Tells};
 ghost use Rattle.smol_config.specs.Reader.{config_from, config_of, lines_in};
+ghost use Rattle.smol_config.specs.Said.{Said};
+ghost use Rattle.smol_config.specs.Tables.{Holds, IsReached};
+ghost use Rattle.smol_config.specs.Whole.{whole_in};
 ghost use Rattle.smol_config.specs.Told.{told_at, lines_told};
 
 use crate::tables::Tables;
@@ -50,6 +53,24 @@ fn lines_told(fault: TextFault) -> ConfigFault
     }
 }
 
+// What the lines read so far make together, or the fault of the whole.
+fn finish_whole(alloc: Global, tables: Tables) -> Result<Config, ConfigFault>
+    requires { IsReached tables }
+    ensures accepted { IfOk result (λ config. (before : List Said) → Holds tables before → whole_in before ≡ Ok config) }
+    ensures refused { IfErr result (λ fault. (before : List Said) → Holds tables before → Tells fault (whole_in before)) }
+{
+    match tables.blocks.opening_line() {
+        Some(line) => Err(ConfigFault::At {
+            line,
+            kind: Kind::OpenBlock,
+        }),
+        None => match finish(alloc, tables) {
+            Ok(config) => Ok(config),
+            Err(refusal) => Err(told_at(0, refusal)),
+        },
+    }
+}
+
 // Reads the lines of a text that make statements.
 fn read_lines(alloc: Global, text: &Text) -> Result<Config, ConfigFault>
     ensures accepted { IfOk result (λ config. config_from (stated_lines text.now) ≡ Ok config) }
@@ -63,10 +84,7 @@ fn read_lines(alloc: Global, text: &Text) -> Result<Config, ConfigFault>
             Err(refusal) => return Err(told_at(line.number(), refusal)),
         }
     }
-    match finish(alloc, tables) {
-        Ok(config) => Ok(config),
-        Err(refusal) => Err(told_at(0, refusal)),
-    }
+    finish_whole(alloc, tables)
 }
 
 /// Reads a configuration of any length. The answer is what the text says, or its first fault, unless memory runs out.

@@ -4,6 +4,7 @@ ghost use Rattle.std.specs.List.{list_any};
 ghost use Rattle.std.specs.Str.{bytes_eq};
 ghost use Rattle.smol_config.specs.Statement.{named};
 
+use smol_blocks::{BlockStatement, SurfaceStatement};
 use smol_line::spells;
 
 /// The first words of lines that are passed over unread.
@@ -92,15 +93,18 @@ pub enum Statement {
     RandomSeed,
     Boundaries,
     Mol,
+    CompartmentMol,
     Reaction,
     BindingRadius,
     ReactionProbability,
     ProductPlacement,
+    Block(BlockStatement),
+    OutputFiles,
     Cmd,
 }
 
 /// The first words of the statements that are read.
-const BUILT: [(&str, Statement); 16] = [
+const BUILT: [(&str, Statement); 27] = [
     ("dim", Statement::Dim),
     ("species", Statement::Species),
     ("difc", Statement::Difc),
@@ -112,10 +116,39 @@ const BUILT: [(&str, Statement); 16] = [
     ("random_seed", Statement::RandomSeed),
     ("boundaries", Statement::Boundaries),
     ("mol", Statement::Mol),
+    ("compartment_mol", Statement::CompartmentMol),
     ("reaction", Statement::Reaction),
     ("binding_radius", Statement::BindingRadius),
     ("reaction_probability", Statement::ReactionProbability),
     ("product_placement", Statement::ProductPlacement),
+    (
+        "start_surface",
+        Statement::Block(BlockStatement::StartSurface),
+    ),
+    (
+        "action",
+        Statement::Block(BlockStatement::InSurface(SurfaceStatement::Action)),
+    ),
+    (
+        "panel",
+        Statement::Block(BlockStatement::InSurface(SurfaceStatement::Panel)),
+    ),
+    (
+        "jump",
+        Statement::Block(BlockStatement::InSurface(SurfaceStatement::Jump)),
+    ),
+    ("end_surface", Statement::Block(BlockStatement::EndSurface)),
+    (
+        "start_compartment",
+        Statement::Block(BlockStatement::StartCompartment),
+    ),
+    ("surface", Statement::Block(BlockStatement::Surface)),
+    ("point", Statement::Block(BlockStatement::Point)),
+    (
+        "end_compartment",
+        Statement::Block(BlockStatement::EndCompartment),
+    ),
+    ("output_files", Statement::OutputFiles),
     ("cmd", Statement::Cmd),
 ];
 
@@ -138,7 +171,7 @@ fn named(table: &[(&str, Statement)], word: &[u8]) -> Statement
 }
 
 impl Statement {
-    ghost use Rattle.smol_config.specs.Statement.{statement_of};
+    ghost use Rattle.smol_config.specs.Statement.{may_stand, statement_of};
 
     /// The statement that a word makes at the beginning of a line.
     #[tactic(auto, using(crate::proofs::StatementLemmas::passed_over_words_are_looked_for, crate::proofs::StatementLemmas::left_out_words_are_looked_for), unfolding(crate::specs::Statement::statement_of))]
@@ -151,6 +184,19 @@ impl Statement {
             Statement::NotInProfile
         } else {
             named(&BUILT, word)
+        }
+    }
+
+    /// Whether the statement may stand where it does, by whether no block is open. Those of blocks test their own place.
+    pub fn may_stand(self, outside: bool) -> bool
+        ensures { result ≡ may_stand self outside }
+    {
+        match self {
+            Statement::PassedOver => true,
+            Statement::NotInProfile => true,
+            Statement::Unknown => true,
+            Statement::Block(_) => true,
+            _ => outside,
         }
     }
 }

@@ -1,13 +1,14 @@
 //! What the lines read so far give.
 ghost use Rattle.std.specs.Prelude.{◌≡◌, ◌≤◌, [], length};
-ghost use Rattle.smol_types.specs.Limits.{most_species};
+ghost use Rattle.smol_types.specs.Limits.{most_compartments, most_outputs, most_species};
 ghost use Rattle.smol_config.specs.declared.statement.Statement.TheVariants as statement;
 
 use crate::species_table::SpeciesTable;
 use crate::statement::Statement;
-use crate::walls::Bounds;
-use crate::{boundaries, cmd, dim, max_mol, mol, motion, random_seed, species, times};
-use smol_line::{Refusal, word_at};
+use crate::{boundaries, compartment_mol, dim, max_mol, mol, motion, random_seed, species, times};
+use smol_blocks::{BlockStatement, Blocks};
+use smol_cmd::{read_cmd, read_output_files};
+use smol_line::{Axes, NameSet, Refusal, unless, word_at};
 use smol_reactions::Reactions;
 use smol_text::StatedLine;
 use smol_types::{Command, Items, Kind, Placing};
@@ -16,22 +17,24 @@ use std::alloc::Global;
 /// What the lines read so far give, a quantity each.
 #[derive(Drop)]
 pub struct Tables {
-    pub dims: Option<u8>,
+    pub axes: Axes,
     pub species: SpeciesTable,
     pub start: Option<i64>,
     pub stop: Option<i64>,
     pub step: Option<i64>,
     pub max_mol: Option<u32>,
     pub seed: Option<u64>,
-    pub bounds: [Option<Bounds>; 3],
     pub placings: Items<Placing>,
     pub reactions: Reactions,
+    pub blocks: Blocks,
+    pub outputs: NameSet,
     pub commands: Items<Command>,
 }
 
 impl Tables {
     ghost use Rattle.smol_config.specs.Reader.{line_in, statement_in};
-    ghost use Rattle.smol_config.specs.Tables.{Holds, Reads};
+    ghost use Rattle.smol_config.specs.Tables.{AreReady, Holds, IsInPlace, IsOutside, Reads};
+    ghost use Rattle.smol_blocks.specs.BlocksTable.{IsKept as AreBlocksKept};
     ghost use Rattle.smol_reactions.specs.Table.{IsKept};
 
     /// Nothing given.
@@ -39,16 +42,22 @@ impl Tables {
         ensures { Holds result [] }
     {
         Tables {
-            dims: None,
+            axes: Axes {
+                dims: None,
+                x: None,
+                y: None,
+                z: None,
+            },
             species: SpeciesTable::new(alloc),
             start: None,
             stop: None,
             step: None,
             max_mol: None,
             seed: None,
-            bounds: [None, None, None],
             placings: Items::new(alloc),
             reactions: Reactions::new(alloc),
+            blocks: Blocks::new(alloc),
+            outputs: NameSet::new(alloc),
             commands: Items::new(alloc),
         }
     }
@@ -56,11 +65,12 @@ impl Tables {
     fn read_dim(&mut self, line: &StatedLine<'_>) -> Result<(), Refusal>
         ensures { Reads (statement_in statement.Dim) line.now self.old self.new result }
     {
-        self.dims = Some(dim::judge(self.dims, line)?);
+        self.axes.dims = Some(dim::judge(&self.axes, line)?);
         Ok(())
     }
 
     fn read_species(&mut self, alloc: Global, line: &StatedLine<'_>) -> Result<(), Refusal>
+        requires { IsOutside self.old }
         ensures { Reads (statement_in statement.Species) line.now self.old self.new result }
     {
         species::read(alloc, &mut self.species, line)
@@ -122,8 +132,8 @@ impl Tables {
     fn read_boundaries(&mut self, line: &StatedLine<'_>) -> Result<(), Refusal>
         ensures { Reads (statement_in statement.Boundaries) line.now self.old self.new result }
     {
-        let (axis, given) = boundaries::judge(self.dims, &self.bounds, line)?;
-        self.bounds[axis as usize] = Some(given);
+        let (axis, given) = boundaries::judge(&self.axes, line)?;
+        boundaries::set_bounds(axis, given, &mut self.axes);
         Ok(())
     }
 
@@ -132,7 +142,7 @@ impl Tables {
         ensures { Reads (statement_in statement.Mol) line.now self.old self.new result }
     {
         let species = &self.species;
-        let placing = mol::judge(self.dims, &self.bounds, &species.names, line)?;
+        let placing = mol::judge(&self.axes, &species.names, line)?;
         self.placings.push(placing)?;
         Ok(())
     }
@@ -169,17 +179,64 @@ impl Tables {
         requires kept { IsKept self.old.reactions }
         ensures { Reads (statement_in statement.ProductPlacement) line.now self.old self.new result }
     {
-        let dims = self.dims;
+        let dims = self.axes.dims;
         let species = &self.species;
         self.reactions
             .read_product_placement(alloc, dims, &species.names, line)
     }
 
+    fn read_compartment_mol(&mut self, line: &StatedLine<'_>) -> Result<(), Refusal>
+        requires { AreReady self.old }
+        ensures { Reads (statement_in statement.CompartmentMol) line.now self.old self.new result }
+    {
+        let species = &self.species;
+        let blocks = &self.blocks;
+        let placing = compartment_mol::judge(
+            &self.axes,
+            &species.names,
+            &blocks.compartment_names,
+            line,
+        )?;
+        self.placings.push(placing)?;
+        Ok(())
+    }
+
+    fn read_block(
+        &mut self,
+        alloc: Global,
+        one: BlockStatement,
+        line: &StatedLine<'_>,
+    ) -> Result<(), Refusal>
+        requires { AreReady self.old }
+        ensures { Reads (statement_in (statement.Block one)) line.now self.old self.new result }
+    {
+        let axes = self.axes;
+        let species = &self.species;
+        self.blocks.read(alloc, one, &axes, &species.names, line)
+    }
+
+    fn read_output_files(&mut self, alloc: Global, line: &StatedLine<'_>) -> Result<(), Refusal>
+        ensures { Reads (statement_in statement.OutputFiles) line.now self.old self.new result }
+    {
+        read_output_files(alloc, &mut self.outputs, line)
+    }
+
     fn read_cmd(&mut self, alloc: Global, line: &StatedLine<'_>) -> Result<(), Refusal>
+        requires { AreReady self.old }
         ensures { Reads (statement_in statement.Cmd) line.now self.old self.new result }
     {
-        let commands = self.commands.as_slice();
-        let command = cmd::judge(alloc, self.dims, &self.bounds, commands, line)?;
+        let count = self.commands.len();
+        let species = &self.species;
+        let blocks = &self.blocks;
+        let command = read_cmd(
+            alloc,
+            &self.axes,
+            &species.names,
+            &blocks.compartment_names,
+            &self.outputs,
+            count,
+            line,
+        )?;
         self.commands.push(command)?;
         Ok(())
     }
@@ -191,8 +248,8 @@ impl Tables {
         statement: Statement,
         line: &StatedLine<'_>,
     ) -> Result<(), Refusal>
-        requires species { length self.old.species.names ≤ most_species }
-        requires kept { IsKept self.old.reactions }
+        requires ready { AreReady self.old }
+        requires place { IsInPlace statement self.old }
         ensures { Reads (statement_in statement) line.now self.old self.new result }
     {
         match statement {
@@ -210,10 +267,13 @@ impl Tables {
             Statement::RandomSeed => self.read_random_seed(line),
             Statement::Boundaries => self.read_boundaries(line),
             Statement::Mol => self.read_mol(line),
+            Statement::CompartmentMol => self.read_compartment_mol(line),
             Statement::Reaction => self.read_reaction(alloc, line),
             Statement::BindingRadius => self.read_binding_radius(line),
             Statement::ReactionProbability => self.read_reaction_probability(line),
             Statement::ProductPlacement => self.read_product_placement(alloc, line),
+            Statement::Block(one) => self.read_block(alloc, one, line),
+            Statement::OutputFiles => self.read_output_files(alloc, line),
             Statement::Cmd => self.read_cmd(alloc, line),
         }
     }
@@ -221,10 +281,12 @@ impl Tables {
     /// Reads a line behind those read so far.
     #[tactic(auto, unfolding(crate::specs::Reader::line_in))]
     pub fn read(&mut self, alloc: Global, line: &StatedLine<'_>) -> Result<(), Refusal>
-        requires species { length self.old.species.names ≤ most_species }
-        requires kept { IsKept self.old.reactions }
+        requires { AreReady self.old }
         ensures { Reads line_in line.now self.old self.new result }
     {
-        self.read_statement(alloc, Statement::of(word_at(line, 0)), line)
+        let statement = Statement::of(word_at(line, 0));
+        let outside = self.blocks.is_outside();
+        unless(statement.may_stand(outside), Kind::BadOrder)?;
+        self.read_statement(alloc, statement, line)
     }
 }

@@ -1,26 +1,31 @@
 //! The tests of the whole file, and what its lines make together.
-ghost use Rattle.std.specs.Prelude.{◌≡◌, ◌≤◌, ◌<ℤ◌, ◌++◌, true, false, pos, ℕ, List, Option, length, Ok, Err, None, IfOk, IfSome, OnOk, MatchResult, nat_le, sum_by, slice_index_or, unsigned_abs};
+ghost use Rattle.std.specs.Prelude.{◌≡◌, ◌≤◌, ◌<ℤ◌, ◌++◌, true, false, pos, ℕ, List, Option, length, Ok, Err, IfOk, IfSome, OnOk, MatchResult, nat_le, sum_by, unsigned_abs};
 ghost use Rattle.std.specs.List.{list_all};
 ghost use Rattle.smol_types.specs.declared.fault.Kind.{Kind as TheKind};
-ghost use Rattle.smol_types.specs.Limits.{latest, most_species};
+ghost use Rattle.smol_types.specs.Limits.{latest, most_species, most_steps};
 ghost use Rattle.smol_types.specs.Placings.{placed_by};
 ghost use Rattle.smol_line.specs.declared.refusal.Refusal.TheVariants.{At};
+ghost use Rattle.smol_line.specs.Axes.{walls_at, walls_of};
 ghost use Rattle.smol_line.specs.Fault.{fault_at};
-ghost use Rattle.smol_reactions.specs.Content.{chances_of};
+ghost use Rattle.smol_types.specs.Steps.{last_step};
+ghost use Rattle.smol_reactions.specs.Content.{are_shared, chances_of};
 ghost use Rattle.smol_reactions.specs.Table.{IsKept};
 ghost use Rattle.smol_config.specs.Reactions.{reactions_said};
 ghost use Rattle.smol_config.specs.Said.{Said};
 ghost use Rattle.smol_config.specs.Motion.{difstep_of};
-ghost use Rattle.smol_config.specs.Content.{content_of, walls_at, walls_of};
-ghost use Rattle.smol_config.specs.Tables.{AreSmall, Holds, IsReached, species_made};
-ghost use Rattle.smol_config.specs.Whole.{bounded, has_chances, has_difstep, has_few_steps, needed_in, whole_in};
+ghost use Rattle.smol_config.specs.Content.{content_of, started};
+ghost use Rattle.smol_config.specs.Tables.{AreSmall, Holds, IsReached, drafted, species_made};
+ghost use Rattle.smol_config.specs.Whole.{bounded, has_chances, has_difstep, has_few_steps, needed_in, closed_in};
 
 use crate::motion::{MOST_DIFSTEP, Motion, difstep_of};
 use crate::species_table::SpeciesTable;
 use crate::tables::Tables;
-use crate::walls::{Bounds, is_walled};
-use smol_line::{Refusal, unless};
-use smol_types::{Config, Draft, Items, Kind, Name, Need, Placing, Species, Wall, last_step};
+use smol_blocks::Blocks;
+use smol_line::{Axes, Bounds, NameSet, Refusal, is_walled, unless};
+use smol_types::{
+    Compartment, Config, Draft, Items, Kind, Name, Need, Panel, Placing, Species, Surface, Wall,
+    last_step,
+};
 use std::alloc::{AllocError, Global};
 
 /// How many steps a run may make.
@@ -42,14 +47,14 @@ pub struct Needed {
 fn needed_in(tables: &Tables) -> Result<Needed, Kind>
     ensures { (before : List Said) → Holds tables.now before → result ≡ needed_in before }
 {
-    let Some(dims) = tables.dims else {
+    let Some(dims) = tables.axes.dims else {
         return Err(Kind::Missing(Need::Dim));
     };
-    let x = is_walled(dims, 0, &tables.bounds[0]);
+    let x = is_walled(dims, 0, &tables.axes.x);
     unless(x, Kind::Missing(Need::Boundaries(0)))?;
-    let y = is_walled(dims, 1, &tables.bounds[1]);
+    let y = is_walled(dims, 1, &tables.axes.y);
     unless(y, Kind::Missing(Need::Boundaries(1)))?;
-    let z = is_walled(dims, 2, &tables.bounds[2]);
+    let z = is_walled(dims, 2, &tables.axes.z);
     unless(z, Kind::Missing(Need::Boundaries(2)))?;
     let Some(stop) = tables.stop else {
         return Err(Kind::Missing(Need::TimeStop));
@@ -85,17 +90,17 @@ fn add_walls(walls: &mut Items<Wall>, axis: u8, bounds: &Option<Bounds>) -> Resu
 }
 
 // The walls of the axes in use, in order.
-#[tactic(auto, unfolding(crate::specs::Content::walls_of))]
-fn walls_of(alloc: Global, bounds: &[Option<Bounds>; 3]) -> Result<Items<Wall>, AllocError>
-    requires x { IfSome (slice_index_or bounds.now 0 None) AreSmall }
-    requires y { IfSome (slice_index_or bounds.now 1 None) AreSmall }
-    requires z { IfSome (slice_index_or bounds.now 2 None) AreSmall }
-    ensures { IfOk result (λ walls. walls ≡ walls_of (slice_index_or bounds.now 0 None) (slice_index_or bounds.now 1 None) (slice_index_or bounds.now 2 None)) }
+#[tactic(auto, unfolding(smol_line::specs::Axes::walls_of))]
+fn walls_of(alloc: Global, axes: &Axes) -> Result<Items<Wall>, AllocError>
+    requires x { IfSome axes.now.x AreSmall }
+    requires y { IfSome axes.now.y AreSmall }
+    requires z { IfSome axes.now.z AreSmall }
+    ensures { IfOk result (λ walls. walls ≡ walls_of axes.now) }
 {
     let mut walls = Items::new(alloc);
-    add_walls(&mut walls, 0, &bounds[0])?;
-    add_walls(&mut walls, 1, &bounds[1])?;
-    add_walls(&mut walls, 2, &bounds[2])?;
+    add_walls(&mut walls, 0, &axes.x)?;
+    add_walls(&mut walls, 1, &axes.y)?;
+    add_walls(&mut walls, 2, &axes.z)?;
     Ok(walls)
 }
 
@@ -127,6 +132,18 @@ fn make_species(alloc: Global, species: &SpeciesTable, time: i64) -> Result<Item
     Ok(made)
 }
 
+// The names of a set in their order.
+fn make_names(alloc: Global, names: &NameSet) -> Result<Items<Name>, AllocError>
+    ensures { IfOk result (λ made. made ≡ names.now) }
+{
+    let mut made = Items::new(alloc);
+    for number in 0..names.len() {
+        let name = Name::from_text(alloc, names.name(number))?;
+        made.push(name)?;
+    }
+    Ok(made)
+}
+
 // How many molecules a statement places.
 fn placed_by(placing: &Placing) -> u32
     ensures { result ≡ placed_by placing.now }
@@ -151,22 +168,43 @@ fn are_few(placings: &[Placing], most: u32) -> bool
     true
 }
 
-// What the lines make together, as long as the steps are few and the difsteps small.
-fn draft_of(alloc: Global, needed: Needed, tables: Tables) -> Result<Draft, Refusal>
-    requires start { IfSome tables.start (λ time. unsigned_abs time ≤ latest) }
+// The surfaces, panels and compartments whose blocks are closed.
+fn block_lists(blocks: Blocks) -> (Items<Surface>, Items<Panel>, Items<Compartment>)
+    ensures surfaces { result.0 ≡ blocks.surfaces }
+    ensures panels { result.1 ≡ blocks.panels }
+    ensures compartments { result.2 ≡ blocks.compartments }
+{
+    (blocks.surfaces, blocks.panels, blocks.compartments)
+}
+
+/// What of a draft is made from the tables, and not taken out of them.
+#[derive(Drop)]
+pub struct Parts {
+    pub start: i64,
+    pub species: Items<Species>,
+    pub walls: Items<Wall>,
+    pub outputs: Items<Name>,
+}
+
+// The parts of a draft, as long as the steps are few, the difsteps small and the probabilities no more than 1.
+fn parts_of(alloc: Global, needed: Needed, tables: &Tables) -> Result<Parts, Refusal>
+    requires start { IfSome tables.now.start (λ time. unsigned_abs time ≤ latest) }
     requires stop { unsigned_abs needed.stop ≤ latest }
     requires step { unsigned_abs needed.step ≤ latest }
     requires step_above { pos 0 <ℤ needed.step }
-    requires x { IfSome (slice_index_or tables.bounds 0 None) AreSmall }
-    requires y { IfSome (slice_index_or tables.bounds 1 None) AreSmall }
-    requires z { IfSome (slice_index_or tables.bounds 2 None) AreSmall }
-    requires species { length tables.species.names ≤ most_species }
-    requires kept { IsKept tables.reactions }
-    ensures content { IfOk result (λ draft. (before : List Said) → Holds tables before → draft ≡ content_of needed before) }
-    ensures few { IfOk result (λ draft. has_few_steps draft ≡ true) }
-    ensures near { IfOk result (λ draft. list_all has_difstep draft.species ≡ true) }
-    ensures shared { IfOk result (λ draft. has_chances tables.reactions.chances.items draft ≡ true) }
-    ensures refused { (kind : TheKind) (before : List Said) → result ≡ Err (At kind) → Holds tables before
+    requires x { IfSome tables.now.axes.x AreSmall }
+    requires y { IfSome tables.now.axes.y AreSmall }
+    requires z { IfSome tables.now.axes.z AreSmall }
+    requires species { length tables.now.species.names ≤ most_species }
+    requires kept { IsKept tables.now.reactions }
+    ensures start { IfOk result (λ parts. parts.start ≡ started tables.now.start) }
+    ensures species { IfOk result (λ parts. parts.species ≡ species_made needed.step tables.now.species.motions.items 0 tables.now.species.names) }
+    ensures walls { IfOk result (λ parts. parts.walls ≡ walls_of tables.now.axes) }
+    ensures outputs { IfOk result (λ parts. parts.outputs ≡ tables.now.outputs) }
+    ensures few { IfOk result (λ parts. nat_le (last_step parts.start needed.stop needed.step) most_steps ≡ true) }
+    ensures near { IfOk result (λ parts. list_all has_difstep parts.species ≡ true) }
+    ensures shared { IfOk result (λ parts. are_shared (length parts.species) tables.now.reactions.list.items tables.now.reactions.chances.items ≡ true) }
+    ensures refused { (kind : TheKind) (before : List Said) → result ≡ Err (At kind) → Holds tables.now before
         → bounded (chances_of (reactions_said before)) (content_of needed before) ≡ Err kind }
 {
     let start = tables.start.unwrap_or(0);
@@ -177,25 +215,64 @@ fn draft_of(alloc: Global, needed: Needed, tables: Tables) -> Result<Draft, Refu
         .reactions
         .are_shared(tables.species.names.len() as u16);
     unless(shared, Kind::ProbabilitySum)?;
-    let walls = walls_of(alloc, &tables.bounds)?;
-    let reactions = tables.reactions.into_list();
-    Ok(Draft {
-        dims: needed.dims,
+    let walls = walls_of(alloc, &tables.axes)?;
+    let outputs = make_names(alloc, &tables.outputs)?;
+    Ok(Parts {
+        start,
         species,
         walls,
-        surfaces: Items::new(alloc),
-        panels: Items::new(alloc),
-        compartments: Items::new(alloc),
+        outputs,
+    })
+}
+
+// The draft of these parts and of what the tables hand over.
+fn drafted(needed: Needed, parts: Parts, tables: Tables) -> Draft
+    requires stop { unsigned_abs needed.stop ≤ latest }
+    requires step { unsigned_abs needed.step ≤ latest }
+    requires start { unsigned_abs parts.start ≤ latest }
+    ensures { result ≡ drafted needed parts tables }
+{
+    let (surfaces, panels, compartments) = block_lists(tables.blocks);
+    let reactions = tables.reactions.into_list();
+    Draft {
+        dims: needed.dims,
+        species: parts.species,
+        walls: parts.walls,
+        surfaces,
+        panels,
+        compartments,
         reactions,
         placings: tables.placings,
         commands: tables.commands,
-        outputs: Items::new(alloc),
-        start,
+        outputs: parts.outputs,
+        start: parts.start,
         stop: needed.stop,
         step: needed.step,
         max_mol: tables.max_mol.unwrap_or(DEFAULT_MAX_MOL),
         seed: tables.seed,
-    })
+    }
+}
+
+// What the lines make together, as long as the steps are few, the difsteps small and the probabilities no more than 1.
+fn draft_of(alloc: Global, needed: Needed, tables: Tables) -> Result<Draft, Refusal>
+    requires start { IfSome tables.start (λ time. unsigned_abs time ≤ latest) }
+    requires stop { unsigned_abs needed.stop ≤ latest }
+    requires step { unsigned_abs needed.step ≤ latest }
+    requires step_above { pos 0 <ℤ needed.step }
+    requires x { IfSome tables.axes.x AreSmall }
+    requires y { IfSome tables.axes.y AreSmall }
+    requires z { IfSome tables.axes.z AreSmall }
+    requires species { length tables.species.names ≤ most_species }
+    requires kept { IsKept tables.reactions }
+    ensures content { IfOk result (λ draft. (before : List Said) → Holds tables before → draft ≡ content_of needed before) }
+    ensures few { IfOk result (λ draft. has_few_steps draft ≡ true) }
+    ensures near { IfOk result (λ draft. list_all has_difstep draft.species ≡ true) }
+    ensures shared { IfOk result (λ draft. has_chances tables.reactions.chances.items draft ≡ true) }
+    ensures refused { (kind : TheKind) (before : List Said) → result ≡ Err (At kind) → Holds tables before
+        → bounded (chances_of (reactions_said before)) (content_of needed before) ≡ Err kind }
+{
+    let parts = parts_of(alloc, needed, &tables)?;
+    Ok(drafted(needed, parts, tables))
 }
 
 // What the lines make together, unless too many molecules are placed.
@@ -212,11 +289,11 @@ fn bounded(draft: Draft) -> Result<Draft, Kind>
     Ok(draft)
 }
 
-/// What the lines read so far make together, where the whole file passes its tests.
+/// What the lines read so far make together, where the whole file passes its tests and no block is open.
 pub fn finish(alloc: Global, tables: Tables) -> Result<Config, Refusal>
     requires { IsReached tables }
-    ensures accepted { IfOk result (λ config. (before : List Said) → Holds tables before → whole_in before ≡ Ok config) }
-    ensures refused { (kind : TheKind) (before : List Said) → result ≡ Err (At kind) → Holds tables before → whole_in before ≡ Err (fault_at 0 kind) }
+    ensures accepted { IfOk result (λ config. (before : List Said) → Holds tables before → closed_in before ≡ Ok config) }
+    ensures refused { (kind : TheKind) (before : List Said) → result ≡ Err (At kind) → Holds tables before → closed_in before ≡ Err (fault_at 0 kind) }
 {
     let needed = needed_in(&tables)?;
     let draft = draft_of(alloc, needed, tables)?;

@@ -2,12 +2,13 @@ use Rattle.std.proofs.Common.{◌≡◌, ◌≤◌, ℕ, true, length, subst, Li
 use Rattle.std.proofs.lemmas.Result.{err_from_is_err_and}
 use Rattle.smol_types.specs.declared.draft.Draft.{Draft}
 use Rattle.smol_types.specs.declared.fault.Kind.{Kind}
+use Rattle.smol_line.specs.declared.axes.Axes.{Axes}
 use Rattle.smol_reactions.specs.Content.{chances_of}
 use Rattle.smol_config.specs.Reactions.{reactions_said}
 use Rattle.smol_config.specs.Said.{Said}
 use Rattle.smol_config.specs.Tables.{Holds}
-use Rattle.smol_config.specs.Whole.{bounded, has_chances, whole_in}
-use Rattle.smol_config.proofs.WholeSound.{needed_is, small_walls, whole_ok, whole_missing, whole_excess, whole_is_sound}
+use Rattle.smol_config.specs.Whole.{bounded, has_chances, closed_in}
+use Rattle.smol_config.proofs.WholeSound.{needed_is, small_walls, closed_ok, closed_missing, closed_excess, closed_is_sound}
 use Rattle.smol_config.proofs.whole.finish.Goals as goal
 use Rattle.smol_config.proofs.whole.finish.Goals.{In_ok-draft-2}
 
@@ -25,21 +26,21 @@ draft_of-requires c =
       stop = stop;
       step = step.0;
       step_above = step.1;
-      x = small_walls _ 0 _ _ holds.bounds.x h.x;
-      y = small_walls _ 1 _ _ holds.bounds.y h.y;
-      z = small_walls _ 2 _ _ holds.bounds.z h.z;
+      x = small_walls _ 0 _ _ (ap (λ (axes : Axes). axes.x) holds.axes) h.axes.x;
+      y = small_walls _ 1 _ _ (ap (λ (axes : Axes). axes.y) holds.axes) h.axes.y;
+      z = small_walls _ 2 _ _ (ap (λ (axes : Axes). axes.z) holds.axes) h.axes.z;
       species = subst (λ (names : List (List ℕ)). length names ≤ 256) (sym holds.species) h.species;
       kept = holds.kept;
     }
 
 -- the draft is what the whole file says
-whole : (c : In_ok-draft-2) (before : List Said) → Holds c.args.tables before → whole_in before ≡ Ok c.in_ok-draft-2.draft
+whole : (c : In_ok-draft-2) (before : List Said) → Holds c.args.tables before → closed_in before ≡ Ok c.in_ok-draft-2.draft
 whole c before holds =
-    whole_ok before c.in_ok-needed.needed c.in_ok-draft-2.draft (sym (c.in_ok-needed.ensures before holds))
+    closed_ok before c.in_ok-needed.needed c.in_ok-draft-2.draft (sym (c.in_ok-needed.ensures before holds))
     (ap (bounded (chances_of (reactions_said before))) (sym (c.in_ok-draft.ensures.content before holds)) ∙ sym (c.in_ok-draft-2.ensures (chances_of (reactions_said before)) (subst (λ chances. has_chances chances c.in_ok-draft.draft ≡ true) holds.reactions.chances c.in_ok-draft.ensures.shared)))
 
 pub of-requires : goal.of-requires
-of-requires c = whole_is_sound c.requires.0 c.in_ok-draft-2.draft c.requires.2 (whole c c.requires.0 c.requires.1)
+of-requires c = closed_is_sound c.requires.0 c.in_ok-draft-2.draft c.requires.2 (whole c c.requires.0 c.requires.1)
 
 pub returns-clause-accepted : goal.returns-clause-accepted
 returns-clause-accepted c before holds = whole (goal.at.returns-clause-accepted c).In_ok-draft-2 before holds ∙ ap (λ (draft : Draft). Ok draft) (sym c.of.ensures)
@@ -48,16 +49,16 @@ pub returns-in_err-needed-clause-refused : goal.returns-in_err-needed-clause-ref
 returns-in_err-needed-clause-refused c kind before is holds =
     let p = err_from_is_err_and c.from_residual.result c.from_residual.ensures.1 in
     let told : c.in_err-needed.field-0.0 ≡ kind = cc (p.1, p.2, is) in
-    whole_missing before kind (sym (c.in_err-needed.ensures before holds) ∙ ap (λ (why : Kind). Err why) told)
+    closed_missing before kind (sym (c.in_err-needed.ensures before holds) ∙ ap (λ (why : Kind). Err why) told)
 
 pub returns-in_err-draft-clause-refused : goal.returns-in_err-draft-clause-refused
 returns-in_err-draft-clause-refused c kind before is holds =
     let p = err_from_is_err_and c.from_residual-in_err-draft.result c.from_residual-in_err-draft.ensures.1 in
-    whole_excess before c.in_ok-needed.needed kind (sym (c.in_ok-needed.ensures before holds)) (c.in_err-draft.ensures.refused kind before (cc (p.1, p.2, is)) holds)
+    closed_excess before c.in_ok-needed.needed kind (sym (c.in_ok-needed.ensures before holds)) (c.in_err-draft.ensures.refused kind before (cc (p.1, p.2, is)) holds)
 
 pub returns-in_err-draft-2-clause-refused : goal.returns-in_err-draft-2-clause-refused
 returns-in_err-draft-2-clause-refused c kind before is holds =
     let p = err_from_is_err_and c.from_residual-in_err-draft-2.result c.from_residual-in_err-draft-2.ensures.1 in
     let told : c.in_err-draft-2.field-0.0 ≡ kind = cc (p.1, p.2, is) in
-    whole_excess before c.in_ok-needed.needed kind (sym (c.in_ok-needed.ensures before holds))
+    closed_excess before c.in_ok-needed.needed kind (sym (c.in_ok-needed.ensures before holds))
     (ap (bounded (chances_of (reactions_said before))) (sym (c.in_ok-draft.ensures.content before holds)) ∙ sym (c.in_err-draft-2.ensures (chances_of (reactions_said before)) (subst (λ chances. has_chances chances c.in_ok-draft.draft ≡ true) holds.reactions.chances c.in_ok-draft.ensures.shared)) ∙ ap (λ (why : Kind). Err why) told)
