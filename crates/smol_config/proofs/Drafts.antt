@@ -5,8 +5,6 @@ use Rattle.std.proofs.lemmas.Int.{ints}
 use Rattle.smol_types.specs.declared.draft.Draft.{Draft}
 use Rattle.smol_types.specs.declared.fault.Kind.{Kind}
 use Rattle.smol_types.specs.declared.fault.Kind.TheVariants.{OutOfRange, ProbabilitySum, TooMany}
-use Rattle.smol_types.specs.declared.species.Species.{Species}
-use Rattle.smol_types.specs.declared.wall.Wall.{Wall}
 use Rattle.smol_types.specs.Steps.{last_step}
 use Rattle.smol_line.specs.Axes.{walls_of}
 use Rattle.smol_line.specs.Checks.{unless}

@@ -1,5 +1,5 @@
 -- The tables with what one line more says.
-use Rattle.std.proofs.Common.{◌≡◌, ◌<◌, ◌++◌, ◌∷◌, [], ◌&&◌, true, false, ℕ, zero, suc, ℤ, List, length, Option, None, Some, Result, Ok, Err, OnOk, nat_le, nat_lt, slice_index_or, arith, refl, sym, ap, ◌∙◌, subst, if◌then◌else◌}
+use Rattle.std.proofs.Common.{◌≡◌, ◌<◌, ◌++◌, ◌∷◌, [], ◌&&◌, true, false, ℕ, zero, suc, ℤ, List, length, Some, Result, Ok, Err, OnOk, nat_le, nat_lt, slice_index_or, arith, refl, sym, ap, ◌∙◌, subst, if◌then◌else◌}
 use Rattle.std.specs.Result.{IsOkAnd}
 use Rattle.smol_text.specs.Reading.{Stated}
 use Rattle.smol_types.specs.declared.command.Command.{Command}

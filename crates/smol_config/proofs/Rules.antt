@@ -1,5 +1,5 @@
 -- A line without a fault keeps what holds so far.
-use Rattle.std.proofs.Common.{◌≡◌, ◌⊎◌, inl, inr, ◌+ℤ◌, ◌-ℤ◌, ◌==◌, ◌+◌, ◌<◌, ◌≤◌, ◌&&◌, ◌||◌, Bool, true, false, ℕ, ℤ, pos, negsuc, ◌<ℤ◌, ◌≤ℤ◌, ◌*ℤ◌, nat_le, nat_lt, int_lt, int_le, List, [], ◌∷◌, length, Option, None, Some, Result, Ok, Err, IfSome, IsSomeAnd, unsigned_abs, arith, refl, sym, ap, ◌∙◌, subst, if◌then◌else◌, codes}
+use Rattle.std.proofs.Common.{◌≡◌, ◌⊎◌, inl, inr, ◌+ℤ◌, ◌-ℤ◌, ◌==◌, ◌+◌, ◌<◌, ◌≤◌, ◌&&◌, ◌||◌, Bool, true, false, ℕ, ℤ, pos, negsuc, ◌<ℤ◌, ◌≤ℤ◌, ◌*ℤ◌, nat_le, int_lt, int_le, List, [], ◌∷◌, length, Option, None, Some, Result, Ok, Err, IfSome, IsSomeAnd, unsigned_abs, arith, refl, sym, ap, ◌∙◌, subst, if◌then◌else◌, codes}
 use Rattle.std.specs.Ordering.{int_eq}
 use Rattle.std.specs.Str.{bytes_eq}
 use Rattle.std.proofs.lemmas.Bool.Decides.{nat_tests, Decides-int_eq}

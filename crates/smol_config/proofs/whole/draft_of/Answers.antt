@@ -1,4 +1,4 @@
-use Rattle.std.proofs.Common.{Err, ◌∙◌}
+use Rattle.std.proofs.Common.{◌∙◌}
 use Rattle.std.proofs.lemmas.Result.{err_from_is_err_and}
 use Rattle.smol_config.proofs.Drafts.{drafted_is}
 use Rattle.smol_config.proofs.whole.draft_of.Goals as goal

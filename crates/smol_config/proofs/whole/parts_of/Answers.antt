@@ -1,9 +1,8 @@
-use Rattle.std.proofs.Common.{◌≡◌, true, false, ℕ, ℤ, pos, List, length, nat_le, unwrap_or, Err, refl, sym, ap, ◌∙◌, to_z, of_z, w64}
+use Rattle.std.proofs.Common.{◌≡◌, true, false, ℕ, ℤ, pos, List, length, nat_le, unwrap_or, Err, sym, ap, ◌∙◌, to_z, of_z, w64}
 use Rattle.std.specs.List.{list_all}
 use Rattle.std.proofs.lemmas.Result.{err_from_is_err_and}
 use Rattle.smol_types.specs.declared.fault.Kind.{Kind}
 use Rattle.smol_types.specs.declared.fault.Kind.TheVariants.{ProbabilitySum, TooMany}
-use Rattle.smol_types.specs.declared.reaction.Reaction.{Reaction}
 use Rattle.smol_types.specs.declared.species.Species.{Species}
 use Rattle.smol_reactions.specs.Content.{are_shared, chances_of}
 use Rattle.smol_config.specs.Reactions.{reactions_said}
