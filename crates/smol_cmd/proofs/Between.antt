@@ -1,18 +1,17 @@
 -- Coordinates that a line gives lie between the walls.
-use Rattle.std.proofs.Common.{◌≡◌, ◌⊎◌, inl, inr, ◌+ℤ◌, ◌-ℤ◌, ◌+◌, ◌<◌, ◌≤◌, ◌&&◌, ◌||◌, Bool, true, false, ℕ, ℤ, pos, ◌<ℤ◌, ◌≤ℤ◌, ◌*ℤ◌, nat_le, int_le, List, [], ◌∷◌, length, Option, None, Some, Result, Ok, Err, IfSome, arith, refl, sym, ap, ◌∙◌, subst, if◌then◌else◌}
+use Rattle.std.proofs.Common.{◌≡◌, ◌⊎◌, inl, inr, ◌+ℤ◌, ◌-ℤ◌, ◌+◌, ◌<◌, ◌≤◌, ◌&&◌, ◌||◌, Bool, true, false, ℕ, ℤ, pos, ◌<ℤ◌, ◌≤ℤ◌, ◌*ℤ◌, nat_le, int_le, List, [], ◌∷◌, length, Option, None, Some, Ok, Err, IfSome, arith, refl, sym, ap, ◌∙◌, subst, if◌then◌else◌}
 use Rattle.std.specs.Ordering.{int_eq}
 use Rattle.std.proofs.lemmas.Bool.Decides.{nat_tests, Decides-int_eq}
 use Rattle.std.proofs.lemmas.Int.{ints}
 use Rattle.smol_geom.specs.declared.place.Place.{Place}
 use Rattle.smol_text.specs.Reading.{Stated}
-use Rattle.smol_types.specs.declared.fault.Kind.{Kind}
 use Rattle.smol_types.specs.declared.fault.Kind.TheVariants.{BadOrder, OutsideWalls}
 use Rattle.smol_types.specs.declared.wall.Wall.{Wall}
 use Rattle.smol_types.specs.Walls.{AreBetween, LiesBetween}
 use Rattle.smol_line.specs.declared.axes.Axes.{Axes}
 use Rattle.smol_line.specs.declared.axes.Bounds.{Bounds}
 use Rattle.smol_line.specs.Axes.{AreAxes, IsBounded, are_walled, is_walled, needs_dim, needs_walls, read_axes, read_axis, walls_of}
-use Rattle.smol_line.specs.Coordinate.{coordinate_between, inside, ticks_within}
+use Rattle.smol_line.specs.Coordinate.{coordinate_between, ticks_within}
 use Rattle.smol_line.specs.Length.{micros_in}
 use Rattle.smol_line.specs.Words.{word_at}
 use Rattle.smol_line.proofs.Passing.{is_there, valued}

@@ -1,10 +1,10 @@
 -- The parts of an `echo` line, and its text byte by byte.
-use Rattle.std.proofs.Common.{◌≡◌, ℕ, ◌+◌, ◌-◌, ◌<◌, ◌≤◌, ◌==◌, Bool, true, false, List, [], ◌∷◌, ◌++◌, length, take, drop, get_or, refl, ap, ◌∙◌, sym, arith, add-one, if◌then◌else◌}
+use Rattle.std.proofs.Common.{◌≡◌, ℕ, ◌+◌, ◌-◌, ◌<◌, ◌≤◌, Bool, true, false, List, [], ◌∷◌, length, take, drop, get_or, refl, add-one}
 use Rattle.std.specs.List.{suffix_len}
 use Rattle.std.proofs.lemmas.List.{at_drop_more, at_drop_all}
 use Rattle.std.proofs.lemmas.List.Sums.{suffix_len-take_yes, suffix_len-take_no}
 use Rattle.smol_text.specs.Lines.{separates}
-use Rattle.smol_cmd.specs.Echo.{behind_words, from_word, past_word, meant_by, text_from}
+use Rattle.smol_cmd.specs.Echo.{behind_words, from_word, past_word, text_from}
 
 -- what stands behind one word more
 pub behind_one_more : (count : ℕ) (part : List ℕ) → behind_words (count + 1) part ≡ past_word (from_word (behind_words count part))

@@ -1,8 +1,7 @@
 -- The command of a line without a fault is sound.
-use Rattle.std.proofs.Common.{◌≡◌, ◌+◌, ◌<◌, ◌≤◌, ℕ, zero, suc, pos, Bool, true, false, nat_le, nat_lt, List, [], ◌∷◌, length, Option, None, Some, Result, Ok, Err, All, refl, arith, subst, length-append}
+use Rattle.std.proofs.Common.{◌≡◌, ◌+◌, ◌<◌, ◌≤◌, ℕ, zero, suc, nat_le, nat_lt, List, [], ◌∷◌, length, Option, None, Some, Result, Ok, All, refl, arith, subst}
 use Rattle.std.proofs.lemmas.Bool.Decides.{nat_tests}
 use Rattle.std.proofs.lemmas.List.Elements.{All-nil, All-cons, All-weaker}
-use Rattle.smol_geom.specs.declared.place.Place.{Place}
 use Rattle.smol_text.specs.Reading.{Stated, words_of}
 use Rattle.smol_types.specs.declared.command.Act.{Act}
 use Rattle.smol_types.specs.declared.command.Act.TheVariants as act
@@ -10,12 +9,12 @@ use Rattle.smol_types.specs.declared.command.Command.{Command}
 use Rattle.smol_types.specs.declared.command.Test.{Test}
 use Rattle.smol_types.specs.declared.command.Test.TheVariants as test
 use Rattle.smol_types.specs.declared.fault.Kind.{Kind}
-use Rattle.smol_types.specs.declared.fault.Kind.TheVariants.{BadOrder, TooMany, WrongWordCount}
+use Rattle.smol_types.specs.declared.fault.Kind.TheVariants.{TooMany, WrongWordCount}
 use Rattle.smol_types.specs.declared.wall.Wall.{Wall}
 use Rattle.smol_types.specs.Commands.{AreSpecies, IsAct, IsCommand, IsOutlet, IsTest}
 use Rattle.smol_types.specs.Limits.{most_commands, most_molecules, most_tests}
 use Rattle.smol_line.specs.Axes.{AreAxes, needs_dim, needs_walls, walls_of}
-use Rattle.smol_line.specs.Checks.{unless, word_count, passing, there}
+use Rattle.smol_line.specs.Checks.{unless, word_count, there}
 use Rattle.smol_line.specs.Numbers.{count_in}
 use Rattle.smol_line.specs.SpeciesWord.{number_in, species_word_in}
 use Rattle.smol_line.specs.Words.{word_at}
@@ -33,7 +32,7 @@ use Rattle.smol_cmd.specs.Outlet.{outlet_in}
 use Rattle.smol_cmd.specs.Echo.{quoted_in, rest_behind, spelled}
 use Rattle.smol_cmd.specs.Act.{act_in, act_of, count_within_in, echo_in, kill_in, kill_prob_in, place_in, point_source_in, positions_in, print_in, replace_in, verb_in}
 use Rattle.smol_cmd.specs.Test.{asked_in, condition_in, condition_words, test_in, test_of}
-use Rattle.smol_cmd.specs.Cmd.{behind_test, cmd_in, command_in, command_of}
+use Rattle.smol_cmd.specs.Cmd.{cmd_in, command_in, command_of}
 use Rattle.smol_cmd.proofs.Passing.{held, no_value, same_value}
 use Rattle.smol_cmd.proofs.Values.{outlet_is, probability_is, when_is, who_is}
 use Rattle.smol_cmd.proofs.Between.{place_is}

@@ -1,5 +1,5 @@
 -- Words of a command with a value: what the value's range is.
-use Rattle.std.proofs.Common.{◌≡◌, ◌+◌, ◌<◌, ◌≤◌, ℕ, zero, suc, ℤ, pos, ◌<ℤ◌, ◌≤ℤ◌, Bool, true, false, nat_le, nat_lt, int_lt, List, [], ◌∷◌, length, Option, None, Some, Result, Ok, Err, unsigned_abs, if◌then◌else◌, codes, position, refl, arith, subst}
+use Rattle.std.proofs.Common.{◌≡◌, ◌+◌, ◌<◌, ◌≤◌, ℕ, zero, suc, ℤ, pos, ◌<ℤ◌, ◌≤ℤ◌, Bool, true, false, nat_le, nat_lt, int_lt, List, [], length, Option, None, Some, Result, Ok, Err, unsigned_abs, if◌then◌else◌, codes, position, refl, arith, subst}
 use Rattle.std.specs.List.{range_with_len}
 use Rattle.std.specs.Str.{bytes_eq}
 use Rattle.std.proofs.lemmas.Bool.Decides.{nat_tests}

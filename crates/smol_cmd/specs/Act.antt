@@ -2,7 +2,7 @@
 use Rattle.std.specs.Prelude.{ℕ, ◌+◌, pos, List, [], ◌∷◌, Result, Ok, Err, if◌then◌else◌, codes}
 use Rattle.std.specs.Str.{bytes_eq}
 use Rattle.smol_geom.specs.declared.place.Place.{Place}
-use Rattle.smol_text.specs.Reading.{Stated, words_of}
+use Rattle.smol_text.specs.Reading.{Stated}
 use Rattle.smol_types.specs.declared.command.Act.{Act}
 use Rattle.smol_types.specs.declared.command.Act.TheVariants as act
 use Rattle.smol_types.specs.declared.fault.Kind.{Kind}

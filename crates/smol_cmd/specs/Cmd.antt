@@ -20,7 +20,7 @@ use Rattle.smol_cmd.specs.Test.{condition_in, condition_words, test_in}
 abbrev pub behind_test : Test → List Test × Act → Result (List Test × Act) Kind
 behind_test test inner = Ok (test ∷ inner.0, inner.1)
 
--- the tests and the act of a COMMAND at a place, where its word begins this test or none. What follows a test is again a COMMAND
+-- the tests and the act of a COMMAND at a place, where its word begins this test or none. Behind a test stands another COMMAND
 abbrev pub command_of : Option Condition → Known → Stated → ℕ → (ℕ → Result (List Test × Act) Kind) → Result (List Test × Act) Kind
 command_of None known line at inner = with_value (act_in known line at) (λ act. Ok ([], act))
 command_of (Some condition) known line at inner =

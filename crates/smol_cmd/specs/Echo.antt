@@ -36,7 +36,7 @@ is_quoted rest = nat_le 2 (length rest) && (slice_index rest 0 == 34) && (slice_
 abbrev pub quoted_in : List ℕ → Option (List ℕ)
 quoted_in rest = if is_quoted rest then Some (slice_range rest 1 (length rest - 1)) else None
 
--- what a byte means behind a backslash: `n` a line feed, `t` a tab, and a backslash itself. Before any other byte the backslash stands for itself
+-- what a byte means behind a backslash: `n` a line feed, `t` a tab, a backslash itself. Else the backslash stands for itself
 abbrev pub meant_by : ℕ → List ℕ
 meant_by byte =
     if byte == 110 then 10 ∷ [] else (if byte == 116 then 9 ∷ [] else (if byte == 92 then 92 ∷ [] else 92 ∷ byte ∷ []))

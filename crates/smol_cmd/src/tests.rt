@@ -2,10 +2,11 @@
 ghost use Rattle.std.specs.Prelude.{◌+◌, ◌≤◌, length, OnOk, IfOk};
 
 use crate::{read_cmd, read_output_files};
+use smol_geom::Place;
 use smol_line::{Axes, Bounds, NameSet, Refusal};
-use smol_num::Micro;
+use smol_num::{Micro, Threshold};
 use smol_text::split_lines;
-use smol_types::{Command, Kind, Letter, When};
+use smol_types::{Act, Command, Kind, Letter, Test, When};
 use std::alloc::{AllocError, Global};
 use std::test::Fail;
 
@@ -25,13 +26,19 @@ const AXES: Axes = Axes {
     z: None,
 };
 
-// Names, with room for one more of each kind.
-fn names(alloc: Global, words: [&str; 3]) -> Result<NameSet, AllocError>
-    ensures { IfOk result (λ names. length names ≤ 3) }
+// Names of species, of compartments and of output files.
+const SPECIES: [&str; 3] = ["A", "B", "C"];
+
+const COMPARTMENTS: [&str; 3] = ["inner", "A", "outer"];
+
+const OUTPUTS: [&str; 3] = ["o", "./o", "all"];
+
+fn names(alloc: Global, words: &[&str]) -> Result<NameSet, AllocError>
+    ensures { IfOk result (λ names. length names ≤ length words.now) }
 {
     let mut names = NameSet::new(alloc);
-    for i in 0..3 {
-        add_new(alloc, &mut names, words[i])?;
+    for word in words {
+        add_new(alloc, &mut names, word)?;
     }
     Ok(names)
 }
@@ -47,9 +54,9 @@ fn add_new(alloc: Global, names: &mut NameSet, name: &str) -> Result<(), AllocEr
 
 // The command of a line by the axes, behind so many commands.
 fn read_by(alloc: Global, axes: &Axes, commands: usize, line: &str) -> Result<Command, Refusal> {
-    let species = names(alloc, ["A", "B", "C"])?;
-    let compartments = names(alloc, ["inner", "A", "outer"])?;
-    let outputs = names(alloc, ["o", "./o", "all"])?;
+    let species = names(alloc, &SPECIES)?;
+    let compartments = names(alloc, &COMPARTMENTS)?;
+    let outputs = names(alloc, &OUTPUTS)?;
     if line.len() > 4_194_304 {
         return Err(Refusal::At(Kind::TooLong));
     }
@@ -235,94 +242,79 @@ fn walls_come_first_and_the_limit_last(rt: HostRuntime) {
     assert_eq!(rt; unknown, Some(Refusal::At(Kind::UnknownCommand)));
 }
 
-// Lines, and what their commands do.
-const DONE: [(&str, &str); 19] = [
-    ("cmd b stop", "Stop"),
-    ("cmd b molcountheader stdout", "CountHeader { out: 0 }"),
-    ("cmd b molcount stderr # x", "Count { out: 1 }"),
-    ("cmd b listmols all", "List { out: 4 }"),
-    (
-        "cmd b molcountincmpt A ./o",
-        "CountIn { compartment: 1, out: 3 }",
-    ),
-    (
-        "cmd b molpos all o",
-        "Positions { who: Items { items: [0, 1, 2] }, out: 2 }",
-    ),
-    (
-        "cmd b killmol B(soln)",
-        "Kill { who: Items { items: [1] } }",
-    ),
-    (
-        "cmd b killmolprob C 1",
-        "KillProb { who: Items { items: [2] }, p: Threshold(4294967296) }",
-    ),
-    (
-        "cmd b replacemol all B 1e-9",
-        "Replace { who: Items { items: [0, 1, 2] }, to: 1, p: Threshold(4) }",
-    ),
-    (
-        "cmd b pointsource B 0 10 -5",
-        "PointSource { species: 1, n: 0, place: Place([19999999, -9999999, 1]) }",
-    ),
-    (
-        "cmd b echo stdout \"\"",
-        "Echo { out: 0, text: Items { items: [] } }",
-    ),
-    (
-        "\tcmd n 2  echo\tstderr   \"a \tb\"\r \t# \"",
-        "Echo { out: 1, text: Items { items: [97, 32, 9, 98] } }",
-    ),
-    (
-        "cmd b echo o \"\\\"",
-        "Echo { out: 2, text: Items { items: [92] } }",
-    ),
-    (
-        "cmd b echo o \"a\"b\"",
-        "Echo { out: 2, text: Items { items: [97, 34, 98] } }",
-    ),
-    (
-        "cmd b echo o \"\\n\\t\\\\n\\x\"",
-        "Echo { out: 2, text: Items { items: [10, 9, 92, 110, 92, 120] } }",
-    ),
-    ("cmd b ifno A stop", "Stop"),
-    ("cmd b ifless all 0 ifmore B 1000000 stop", "Stop"),
-    (
-        "cmd b ifno A ifno A ifno A ifno A ifno A ifno A ifno A ifno A stop",
-        "Stop",
-    ),
-    (
-        "cmd b ifmore all 3 echo o \"ifno\"",
-        "Echo { out: 2, text: Items { items: [105, 102, 110, 111] } }",
-    ),
-];
-
 #[test]
 fn commands_are_read(rt: HostRuntime) -> Result<(), Fail> {
-    for (line, act) in DONE {
-        let Ok(command) = read(rt.alloc(), line) else {
-            assert!(rt; false, "{line}");
-            return Ok(());
-        };
-        let does = command.act;
-        let told = format!(in rt.alloc(); "{does:?}")?;
-        assert_eq!(rt; told.as_str(), act);
-    }
+    let positions = read(rt.alloc(), "cmd b molpos all o")?.act;
+    let Act::Positions { who, out } = positions else {
+        assert!(rt; false);
+        return Ok(());
+    };
+    assert_eq!(rt; who.as_slice(), [0, 1, 2].as_slice());
+    assert_eq!(rt; out, 2);
+    let replace = read(rt.alloc(), "cmd b replacemol B(soln) C 1e-9")?.act;
+    let Act::Replace { who, to, p } = replace else {
+        assert!(rt; false);
+        return Ok(());
+    };
+    assert_eq!(rt; who.as_slice(), [1].as_slice());
+    assert_eq!(rt; (to, p), (2, Threshold(4)));
+    Ok(())
+}
+
+#[test]
+fn sources_and_counts_are_read(rt: HostRuntime) -> Result<(), Fail> {
+    let source = read(rt.alloc(), "cmd b pointsource B 7 10 -5")?.act;
+    let Act::PointSource { species, n, place } = source else {
+        assert!(rt; false);
+        return Ok(());
+    };
+    assert_eq!(rt; (species, n), (1, 7));
+    assert_eq!(rt; place, Place([19_999_999, -9_999_999, 1]));
+    let count = read(rt.alloc(), "cmd b molcountincmpt A ./o # x")?.act;
+    let Act::CountIn { compartment, out } = count else {
+        assert!(rt; false);
+        return Ok(());
+    };
+    assert_eq!(rt; (compartment, out), (1, 3));
     Ok(())
 }
 
 #[test]
 fn tests_are_read(rt: HostRuntime) -> Result<(), Fail> {
-    let Ok(command) = read(rt.alloc(), "cmd b ifno C ifless all 7 ifmore A(all) 0 stop") else {
+    let command = read(rt.alloc(), "cmd b ifno C ifmore all 7 stop")?;
+    let [Test::IfNo { who: first }, Test::IfMore { who: second, n }] = command.tests.as_slice()
+    else {
         assert!(rt; false);
         return Ok(());
     };
-    let tests = command.tests;
-    let told = format!(in rt.alloc(); "{tests:?}")?;
-    assert_eq!(rt;
-        told.as_str(),
-        "Items { items: [IfNo { who: Items { items: [2] } }, IfLess { who: Items { items: [0, 1, 2] }, n: 7 }, IfMore { who: Items { items: [0] }, n: 0 }] }"
-    );
+    assert_eq!(rt; first.as_slice(), [2].as_slice());
+    assert_eq!(rt; second.as_slice(), [0, 1, 2].as_slice());
+    assert_eq!(rt; *n, 7);
+    let eight = "cmd b ifno A ifno A ifno A ifno A ifno A ifno A ifno A ifno A stop";
+    assert_eq!(rt; read(rt.alloc(), eight)?.tests.len(), 8);
+    Ok(())
+}
+
+// Lines that print a text to an outlet, and the text.
+const TEXTS: [(&str, &str); 5] = [
+    ("cmd b echo o \"\"", ""),
+    ("\tcmd n 2  echo\to   \"a \tb\"\r \t# \"", "a \tb"),
+    ("cmd b echo o \"\\\"", "\\"),
+    ("cmd b echo o \"a\"b\"", "a\"b"),
+    ("cmd b echo o \"\\n\\t\\\\n\\x\"", "\n\t\\n\\x"),
+];
+
+#[test]
+fn texts_are_read(rt: HostRuntime) -> Result<(), Fail> {
+    for (line, expected) in TEXTS {
+        let echo = read(rt.alloc(), line)?.act;
+        let Act::Echo { out, text } = echo else {
+            assert!(rt; false, "{line}");
+            return Ok(());
+        };
+        assert_eq!(rt; out, 2);
+        assert_eq!(rt; text.as_slice(), expected.as_bytes(), "{line}");
+    }
     Ok(())
 }
 
@@ -342,7 +334,7 @@ fn add_files(alloc: Global, outputs: &mut NameSet, line: &str) -> Result<(), Ref
 
 // How many files there are behind these lines and three files, or the first fault.
 fn count_files(alloc: Global, first: &str, second: &str) -> Result<usize, Refusal> {
-    let mut outputs = names(alloc, ["o", "./o", "all"])?;
+    let mut outputs = names(alloc, &OUTPUTS)?;
     add_files(alloc, &mut outputs, first)?;
     add_files(alloc, &mut outputs, second)?;
     Ok(outputs.len())

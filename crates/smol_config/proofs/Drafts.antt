@@ -5,8 +5,6 @@ use Rattle.std.proofs.lemmas.Int.{ints}
 use Rattle.smol_types.specs.declared.draft.Draft.{Draft}
 use Rattle.smol_types.specs.declared.fault.Kind.{Kind}
 use Rattle.smol_types.specs.declared.fault.Kind.TheVariants.{OutOfRange, ProbabilitySum, TooMany}
-use Rattle.smol_types.specs.declared.species.Species.{Species}
-use Rattle.smol_types.specs.declared.wall.Wall.{Wall}
 use Rattle.smol_types.specs.Steps.{last_step}
 use Rattle.smol_line.specs.Axes.{walls_of}
 use Rattle.smol_line.specs.Checks.{unless}
@@ -14,46 +12,29 @@ use Rattle.smol_reactions.specs.Content.{are_shared, chances_of}
 use Rattle.smol_config.specs.declared.motion.Motion.{Motion}
 use Rattle.smol_config.specs.declared.tables.Tables.{Tables}
 use Rattle.smol_config.specs.declared.whole.Needed.{Needed}
+use Rattle.smol_config.specs.declared.whole.Parts.{Parts}
 use Rattle.smol_config.specs.Said.{Said}
 use Rattle.smol_config.specs.MaxMol.{limit_of}
 use Rattle.smol_config.specs.Reactions.{reactions_said}
 use Rattle.smol_config.specs.Species.{species_of}
 use Rattle.smol_config.specs.Content.{content_of, species_from, started}
-use Rattle.smol_config.specs.Tables.{Holds, species_made}
+use Rattle.smol_config.specs.Tables.{Holds, drafted, species_made}
 use Rattle.smol_config.specs.Whole.{bounded, has_chances, has_difstep, has_few_steps}
 use Rattle.smol_config.proofs.SpeciesNames.{species_are}
 use Rattle.smol_config.proofs.WholeSound.{length-species_from}
-
--- the draft that the tables make, with these species and walls
-abbrev pub drafted : Needed → Tables → List Species → List Wall → Draft
-drafted needed tables species walls = record {
-  dims = needed.dims;
-  species = species;
-  walls = walls;
-  surfaces = tables.blocks.surfaces;
-  panels = tables.blocks.panels;
-  compartments = tables.blocks.compartments;
-  reactions = tables.reactions.list.items;
-  placings = tables.placings;
-  commands = tables.commands;
-  outputs = tables.outputs;
-  start = unwrap_or tables.start (pos 0);
-  stop = needed.stop;
-  step = needed.step;
-  max_mol = unwrap_or tables.max_mol 100000;
-  seed = tables.seed;
-}
 
 module _ (needed : Needed) (tables : Tables) (before : List Said) (h : Holds tables before) where
   pub species_held : species_made needed.step tables.species.motions.items 0 tables.species.names ≡ species_from needed.step before 0 (species_of before)
   species_held = species_are needed.step before tables.species.motions.items h.motions 0 tables.species.names ∙ ap (species_from needed.step before 0) h.species
 
   -- what the tables make is what the lines say
-  pub drafted_is : drafted needed tables (species_made needed.step tables.species.motions.items 0 tables.species.names) (walls_of tables.axes) ≡ content_of needed before
+  pub drafted_is : (parts : Parts) → parts.start ≡ started tables.start → parts.species ≡ species_made needed.step tables.species.motions.items 0 tables.species.names → parts.walls ≡ walls_of tables.axes → parts.outputs ≡ tables.outputs → drafted needed parts tables ≡ content_of needed before
   unfolding content_of
-  drafted_is =
-      let species = species_held in
-      let walls = ap walls_of h.axes in
+  drafted_is parts start made walled written =
+      let start = start ∙ ap started h.start in
+      let species = made ∙ species_held in
+      let walls = walled ∙ ap walls_of h.axes in
+      let outputs = written ∙ h.outputs in
       λ i. record {
         dims = needed.dims;
         species = species i;
@@ -64,8 +45,8 @@ module _ (needed : Needed) (tables : Tables) (before : List Said) (h : Holds tab
         reactions = h.reactions.list i;
         placings = h.placings i;
         commands = h.commands i;
-        outputs = h.outputs i;
-        start = started (h.start i);
+        outputs = outputs i;
+        start = start i;
         stop = needed.stop;
         step = needed.step;
         max_mol = limit_of (h.max_mol i);

@@ -1,9 +1,10 @@
 -- The tables with what one line more says.
-use Rattle.std.proofs.Common.{◌≡◌, ◌<◌, ◌++◌, ◌∷◌, [], ◌&&◌, true, ℕ, zero, suc, ℤ, List, length, Option, None, Some, Result, Ok, Err, OnOk, nat_le, nat_lt, slice_index_or, arith, refl, sym, ap, ◌∙◌, if◌then◌else◌}
+use Rattle.std.proofs.Common.{◌≡◌, ◌<◌, ◌++◌, ◌∷◌, [], ◌&&◌, true, false, ℕ, zero, suc, ℤ, List, length, Some, Result, Ok, Err, OnOk, nat_le, nat_lt, slice_index_or, arith, refl, sym, ap, ◌∙◌, subst, if◌then◌else◌}
 use Rattle.std.specs.Result.{IsOkAnd}
 use Rattle.smol_text.specs.Reading.{Stated}
 use Rattle.smol_types.specs.declared.command.Command.{Command}
 use Rattle.smol_types.specs.declared.fault.Kind.{Kind}
+use Rattle.smol_types.specs.declared.fault.Kind.TheVariants.{BadOrder}
 use Rattle.smol_types.specs.declared.placing.Placing.{Placing}
 use Rattle.smol_line.specs.declared.axes.Axes.{Axes}
 use Rattle.smol_line.specs.declared.axes.Bounds.{Bounds}
@@ -31,14 +32,15 @@ use Rattle.smol_config.specs.declared.tables.Tables.{Tables}
 use Rattle.smol_config.specs.Said.{Said, passed_over, axes, names, moves, starts, stops, steps, limits, seeds, walls, places, of_reactions, of_blocks, writes, performs, say}
 use Rattle.smol_config.specs.Species.{further_words, species_in, species_of}
 use Rattle.smol_config.specs.Motion.{still}
-use Rattle.smol_config.specs.Reader.{statement_in}
+use Rattle.smol_config.specs.Reader.{placed_in, statement_in}
+use Rattle.smol_config.specs.Statement.{may_stand}
 use Rattle.smol_config.specs.Axes.{axes_of}
 use Rattle.smol_config.specs.Reactions.{reactions_said}
-use Rattle.smol_config.specs.Blocks.{blocks_said}
+use Rattle.smol_config.specs.Blocks.{blocks_said, stands_outside}
 use Rattle.smol_config.specs.Mol.{mol_in}
 use Rattle.smol_config.specs.CompartmentMol.{compartment_mol_in}
 use Rattle.smol_config.specs.Commands.{commands_of, known_of}
-use Rattle.smol_config.specs.Tables.{Holds, IsOutside, Reads, with_bounds}
+use Rattle.smol_config.specs.Tables.{Holds, IsInPlace, IsOutside, Reads, with_bounds}
 
 -- the walls of one axis more
 axes_with : (before : List Said) (axis : ℕ) (new : Bounds) → axis < 3 → with_bounds axis new (axes_of before) ≡ axes_of (walls axis new ∷ before)
@@ -251,7 +253,7 @@ motions_held tables before chosen motion species same moved h = record {
   reactions = h.reactions;
   kept = h.kept;
   blocks = h.blocks;
-  blocks_kept = h.blocks_kept;
+  blocks_kept = subst (λ (names : List (List ℕ)). AreBlocksKept (length names) tables.blocks) (sym same) h.blocks_kept;
   outputs = h.outputs;
   commands = h.commands;
 }
@@ -421,3 +423,26 @@ pub cmd_rule : (line : Stated) (tables : Tables) (before : List Said) (count : �
 cmd_rule line tables before count counted h =
     let counts = sym (counted ∙ ap (λ (all : List Command). length all) h.commands) in
     λ j. cmd_in (known (sym h.axes j) (sym h.species j) (sym h.blocks.compartment_names j) (sym h.outputs j)) (counts j) line
+
+-- how the reading of a `cmd` line ends that isn't taken
+pub cmd_refused : {T : Type 0} (line : Stated) (tables : Tables) (count : ℕ) (refusal : Refusal) (result : Result T Refusal) → result ≡ Err refusal → count ≡ length tables.commands
+    → ((kind : Kind) → refusal ≡ At kind → cmd_in (known tables.axes tables.species.names tables.blocks.compartment_names tables.outputs) count line ≡ Err kind)
+    → Reads (statement_in statement.Cmd) line tables tables result
+unfolding statement_in
+cmd_refused line tables count refusal (Ok done) is counted refused = absurd cc
+cmd_refused line tables count refusal (Err (At kind)) is counted refused = λ before h.
+    let same : refusal ≡ At kind = cc in
+    ap (say performs) (cmd_rule line tables before count counted h ∙ refused kind same)
+cmd_refused line tables count refusal (Err OutOfMemory) is counted refused = tt
+
+-- a statement that stands where it may is read, and one that doesn't is refused
+pub placed_reads : {T : Type 0} (one : Statement) (line : Stated) (old new : Tables) (result : Result T Refusal) → IsInPlace one old → Reads (statement_in one) line old new result → Reads (placed_in one) line old new result
+placed_reads one line old new (Ok done) place reads = λ before h.
+    let read = reads before h in
+    let stands = place before h in
+    (read.0, rw stands read.1, read.2)
+placed_reads one line old new (Err (At kind)) place reads = λ before h. let stands = place before h in rw stands (reads before h)
+placed_reads one line old new (Err OutOfMemory) place reads = tt
+
+pub misplaced : (one : Statement) (before : List Said) (line : Stated) → may_stand one (stands_outside before) ≡ false → placed_in one before line ≡ Err BadOrder
+misplaced one before line stands = rw stands refl

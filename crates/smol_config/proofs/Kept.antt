@@ -1,5 +1,5 @@
 -- What holds so far is kept by what each line says.
-use Rattle.std.proofs.Common.{◌≡◌, ◌+◌, ◌<◌, ◌≤◌, ◌&&◌, ◌||◌, Bool, true, false, ℕ, zero, suc, ℤ, pos, ◌<ℤ◌, nat_le, List, [], ◌∷◌, ◌++◌, length, All, Option, None, Some, IfSome, IsSomeAnd, unsigned_abs, arith, refl, sym, subst}
+use Rattle.std.proofs.Common.{◌≡◌, ◌+◌, ◌<◌, ◌≤◌, ◌&&◌, ◌||◌, Bool, true, false, ℕ, zero, suc, ℤ, pos, ◌<ℤ◌, nat_le, List, [], ◌∷◌, ◌++◌, length, All, Option, None, Some, IfSome, IsSomeAnd, unsigned_abs, arith, refl, subst}
 use Rattle.std.proofs.lemmas.Bool.Decides.{nat_tests}
 use Rattle.std.proofs.lemmas.List.{length-append}
 use Rattle.std.proofs.lemmas.List.Elements.{All-push, All-weaker}
@@ -13,8 +13,9 @@ use Rattle.smol_line.specs.declared.axes.Axes.{Axes}
 use Rattle.smol_line.specs.declared.axes.Bounds.{Bounds}
 use Rattle.smol_line.specs.Axes.{AreAxes, AreSettled, IsBounded, are_walled, is_walled, walls_of}
 use Rattle.smol_line.specs.declared.species_word.Chosen.{Chosen}
-use Rattle.smol_blocks.specs.Blocks.{BlockSaid, opens_surface, of_surface, closes_surface, opens_compartment, of_compartment, closes_compartment, compartments_of}
-use Rattle.smol_blocks.specs.BlocksSound.{AreBlocks, AreBlocksOf}
+use Rattle.smol_blocks.specs.Blocks.{BlockSaid, compartments_of}
+use Rattle.smol_blocks.specs.BlocksSound.{AreBlocks}
+use Rattle.smol_blocks.proofs.SoundBlocks.{axes_given}
 use Rattle.smol_cmd.proofs.Sound.{commands_stay_sound}
 use Rattle.smol_reactions.specs.ReactionSaid.{ReactionSaid}
 use Rattle.smol_reactions.specs.Sound.{AreReactions}
@@ -40,30 +41,6 @@ commands_more : (species compartments outputs more_species more_compartments mor
 commands_more species compartments outputs more_species more_compartments more_outputs around a b c all h =
     All-weaker (IsCommand species compartments outputs around) (IsCommand more_species more_compartments more_outputs around)
     (λ one sound. commands_stay_sound species compartments outputs more_species more_compartments more_outputs around one sound a b c) all h
-
--- a line on blocks more leaves no fewer compartments
-compartments_grow : (said : BlockSaid) (before : List BlockSaid) → length (compartments_of before) ≤ length (compartments_of (said ∷ before))
-compartments_grow (opens_surface opened name) before = omega arith
-compartments_grow (of_surface said) before = omega arith
-compartments_grow (closes_surface surface panels) before = omega arith
-compartments_grow (opens_compartment opened name) before = omega arith
-compartments_grow (of_compartment said) before = omega arith
-compartments_grow (closes_compartment compartment) before =
-    let count = length-append (compartments_of before) (compartment ∷ []) in omega arith
-
--- before the number of axes is given nothing is said of blocks
-first_axes : (dims : ℕ) (said : List BlockSaid) → 1 ≤ dims → dims ≤ 3 → said ≡ [] → AreBlocksOf dims said
-first_axes dims said least most none = subst (AreBlocksOf dims) (sym none) (nothing_sound dims)
-  where
-    nothing_sound : (dims : ℕ) → AreBlocksOf dims []
-    nothing_sound dims = record {
-      surface_count = omega arith;
-      compartment_count = omega arith;
-      panel_count = omega arith;
-      panels = λ k d within. absurd (omega arith);
-      compartments = λ k d within. absurd (omega arith);
-      block = (refl, refl);
-    }
 
 -- without axes there are no walls
 unbounded : (axis : ℕ) (dims : Option ℕ) (bounds : Option Bounds) (P : Bounds → Type 0) → dims ≡ None → IfSome bounds (IsBounded dims axis) → IfSome bounds P
@@ -117,7 +94,7 @@ axes_kept before dims new least most h = record {
   settled = λ some. absurd (unsettled (axes_of before) new (h.settled some));
   placings = h.placings;
   reactions = dims_keep (Some dims) (length (species_of before)) (reactions_said before) (subst (λ (given : Option ℕ). AreReactions given (length (species_of before)) (reactions_said before)) new h.reactions);
-  blocks = first_axes dims (blocks_said before) least most (subst (λ (given : Option ℕ). AreBlocks given (blocks_said before)) new h.blocks);
+  blocks = axes_given dims (blocks_said before) (subst (λ (given : Option ℕ). AreBlocks given (blocks_said before)) new h.blocks);
   outputs = h.outputs;
   command_count = h.command_count;
   commands = h.commands;
@@ -262,9 +239,8 @@ of_reactions_kept before said sound h = record {
   commands = h.commands;
 }
 
-pub of_blocks_kept : (before : List Said) (said : BlockSaid) → AreBlocks (dims_of before) (said ∷ blocks_said before) → IsSoFar before → IsSoFar (of_blocks said ∷ before)
-of_blocks_kept before said sound h =
-    let grown = compartments_grow said (blocks_said before) in
+pub of_blocks_kept : (before : List Said) (said : BlockSaid) → length (compartments_of (blocks_said before)) ≤ length (compartments_of (said ∷ blocks_said before)) → AreBlocks (dims_of before) (said ∷ blocks_said before) → IsSoFar before → IsSoFar (of_blocks said ∷ before)
+of_blocks_kept before said grown sound h =
     let count = length (compartments_of (said ∷ blocks_said before)) in
     record {
       axes = h.axes;

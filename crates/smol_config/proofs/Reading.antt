@@ -1,16 +1,21 @@
 -- Reading on, line by line, and how it ends.
-use Rattle.std.proofs.Common.{◌≡◌, List, [], ◌∷◌, Result, Ok, Err, ℕ, None, Some, refl, sym, ap, ◌∙◌}
+use Rattle.std.proofs.Common.{◌≡◌, List, [], ◌∷◌, Result, Ok, Err, IfOk, IfErr, ℕ, None, Some, length, ◌≤◌, refl, sym, subst, ap, ◌∙◌}
 use Rattle.smol_text.specs.Reading.{Stated}
 use Rattle.smol_types.specs.declared.draft.Draft.{Draft}
+use Rattle.smol_types.specs.declared.fault.ConfigFault.{ConfigFault}
 use Rattle.smol_types.specs.declared.fault.Kind.{Kind}
 use Rattle.smol_types.specs.declared.fault.Kind.TheVariants.{OpenBlock}
 use Rattle.smol_line.specs.declared.refusal.Refusal.{Refusal}
 use Rattle.smol_line.specs.declared.refusal.Refusal.TheVariants.{At, OutOfMemory}
+use Rattle.smol_line.specs.Axes.{AreAxes}
 use Rattle.smol_line.specs.Checks.{with_value}
 use Rattle.smol_line.specs.Fault.{Fault, fault_at, at_line, Tells}
 use Rattle.smol_blocks.specs.Blocks.{block_of, opening_line}
 use Rattle.smol_config.specs.Said.{Said}
 use Rattle.smol_config.specs.Reader.{config_from, line_in, read_from}
+use Rattle.smol_config.specs.declared.tables.Tables.{Tables}
+use Rattle.smol_config.specs.SoFar.{IsSoFar}
+use Rattle.smol_config.specs.Tables.{AreReady, Holds}
 use Rattle.smol_config.specs.Told.{told_at}
 use Rattle.smol_config.specs.Whole.{behind_blocks, closed_in, whole_in}
 use Rattle.smol_config.specs.Blocks.{blocks_said}
@@ -44,3 +49,24 @@ whole_closed before none = ap (λ open_line. behind_blocks open_line (closed_in 
 pub whole_open : (before : List Said) (line : ℕ) → Some line ≡ opening_line (block_of (blocks_said before)) → whole_in before ≡ Err (fault_at line OpenBlock)
 unfolding whole_in
 whole_open before line some = ap (λ open_line. behind_blocks open_line (closed_in before)) (sym some)
+
+-- tables that hold what lines without a fault say are ready for a line more
+pub ready : (tables : Tables) (before : List Said) → Holds tables before → IsSoFar before → AreReady tables
+ready tables before h sound = record {
+  axes = subst AreAxes (sym h.axes) sound.axes;
+  species = subst (λ (names : List (List ℕ)). length names ≤ 256) (sym h.species) sound.species;
+  reactions = h.kept;
+  blocks = h.blocks_kept;
+  outputs = subst (λ (names : List (List ℕ)). length names ≤ 64) (sym h.outputs) sound.outputs;
+}
+
+-- where the lines end, what comes of the tables is what all lines say
+pub whole_accepted : (all : List Stated) (before : List Said) (tables : Tables) (result : Result Draft ConfigFault) → config_from all ≡ whole_in before → Holds tables before
+    → IfOk result (λ config. (before : List Said) → Holds tables before → whole_in before ≡ Ok config) → IfOk result (λ config. config_from all ≡ Ok config)
+whole_accepted all before tables (Ok config) same h accepted = same ∙ accepted before h
+whole_accepted all before tables (Err fault) same h accepted = tt
+
+pub whole_refused : (all : List Stated) (before : List Said) (tables : Tables) (result : Result Draft ConfigFault) → config_from all ≡ whole_in before → Holds tables before
+    → IfErr result (λ fault. (before : List Said) → Holds tables before → Tells fault (whole_in before)) → IfErr result (λ fault. Tells fault (config_from all))
+whole_refused all before tables (Ok config) same h refused = tt
+whole_refused all before tables (Err fault) same h refused = subst (Tells fault) (sym same) (refused before h)

@@ -1,5 +1,5 @@
 -- A line without a fault keeps what holds so far.
-use Rattle.std.proofs.Common.{◌≡◌, ◌⊎◌, inl, inr, ◌+ℤ◌, ◌-ℤ◌, ◌==◌, ◌+◌, ◌<◌, ◌≤◌, ◌&&◌, ◌||◌, Bool, true, false, ℕ, ℤ, pos, negsuc, ◌<ℤ◌, ◌≤ℤ◌, ◌*ℤ◌, nat_le, nat_lt, int_lt, int_le, List, [], ◌∷◌, length, Option, None, Some, Result, Ok, Err, IfSome, IsSomeAnd, unsigned_abs, arith, refl, sym, ap, ◌∙◌, subst, if◌then◌else◌, codes}
+use Rattle.std.proofs.Common.{◌≡◌, ◌⊎◌, inl, inr, ◌+ℤ◌, ◌-ℤ◌, ◌==◌, ◌+◌, ◌<◌, ◌≤◌, ◌&&◌, ◌||◌, Bool, true, false, ℕ, ℤ, pos, negsuc, ◌<ℤ◌, ◌≤ℤ◌, ◌*ℤ◌, nat_le, int_lt, int_le, List, [], ◌∷◌, length, Option, None, Some, Result, Ok, Err, IfSome, IsSomeAnd, unsigned_abs, arith, refl, sym, ap, ◌∙◌, subst, if◌then◌else◌, codes}
 use Rattle.std.specs.Ordering.{int_eq}
 use Rattle.std.specs.Str.{bytes_eq}
 use Rattle.std.proofs.lemmas.Bool.Decides.{nat_tests, Decides-int_eq}
@@ -29,8 +29,9 @@ use Rattle.smol_line.specs.Words.{word_at}
 use Rattle.smol_line.proofs.Passing.{passed, valued, holds, not_yet, is_there}
 use Rattle.smol_line.proofs.Ranges.{count_in-low, count_in-high, decimal_in-within, axis_in-within, number_in-within, species_word_in-within}
 use Rattle.smol_blocks.specs.declared.block_statement.BlockStatement.{BlockStatement}
-use Rattle.smol_blocks.specs.Blocks.{Block, no_block, in_surface, in_compartment, BlockSaid, block_line_in, block_of, compartment_names, compartments_of, is_outside}
-use Rattle.smol_blocks.specs.BlocksSound.{AreBlocks, IsBlock}
+use Rattle.smol_blocks.specs.Blocks.{BlockSaid, block_line_in, block_of, compartment_names, compartments_of, is_outside}
+use Rattle.smol_blocks.specs.BlocksSound.{AreBlocks}
+use Rattle.smol_blocks.proofs.SoundBlocks.{blocks_keep, compartments_grow, outside_equal}
 use Rattle.smol_cmd.specs.Cmd.{cmd_in}
 use Rattle.smol_cmd.specs.OutputFiles.{output_files_in}
 use Rattle.smol_cmd.proofs.OutputNames.{files_are_few}
@@ -309,13 +310,8 @@ mol_keeps before line one is h =
 
 -- where no block is open, each compartment that is named is there
 compartments_closed : (dims : Option ℕ) (said : List BlockSaid) → AreBlocks dims said → is_outside (block_of said) ≡ true → length (compartment_names said) ≡ length (compartments_of said)
-compartments_closed None said none outside = ap (λ (said : List BlockSaid). length (compartment_names said)) none ∙ sym (ap (λ (said : List BlockSaid). length (compartments_of said)) none)
-compartments_closed (Some dims) said sound outside = by (block_of said) sound.block outside
-  where
-    by : (block : Block) → IsBlock dims said block → is_outside block ≡ true → length (compartment_names said) ≡ length (compartments_of said)
-    by no_block is outside = is.1
-    by (in_surface opened lines) is outside = absurd cc
-    by (in_compartment opened lines) is outside = absurd cc
+compartments_closed None said none outside = rw none refl
+compartments_closed (Some dims) said sound outside = let both = outside_equal dims said sound outside in both.1
 
 compartment_mol_keeps : (before : List Said) (line : Stated) (one : Placing) → compartment_mol_in (axes_of before) (species_of before) (compartment_names (blocks_said before)) line ≡ Ok one → stands_outside before ≡ true → IsSoFar before → IsSoFar (places one ∷ before)
 unfolding compartment_mol_in
@@ -337,8 +333,10 @@ compartment_mol_keeps before line one is outside h =
     (count_in-high 0 1000000 (word_at line 1) n.0 n.1, species_word_in-within (species_of before) (word_at line 2) species.0 species.1, omega arith) h)
 
 -- what is said of blocks stays sound
-blocks_keep : (one : BlockStatement) (before : List Said) (line : Stated) (said : BlockSaid) → block_line_in one (axes_of before) (species_of before) (blocks_said before) line ≡ Ok said → IsSoFar before → IsSoFar (of_blocks said ∷ before)
-blocks_keep one before line said is h = of_blocks_kept before said ? h
+block_keeps : (one : BlockStatement) (before : List Said) (line : Stated) (said : BlockSaid) → block_line_in one (axes_of before) (species_of before) (blocks_said before) line ≡ Ok said → IsSoFar before → IsSoFar (of_blocks said ∷ before)
+block_keeps one before line said is h =
+    of_blocks_kept before said (compartments_grow one (axes_of before) (species_of before) (blocks_said before) line said is)
+    (blocks_keep one (axes_of before) (species_of before) (blocks_said before) line said is h.axes h.blocks) h
 
 cmd_keeps : (before : List Said) (line : Stated) (command : Command) → cmd_in (known_of before) (length (commands_of before)) line ≡ Ok command → stands_outside before ≡ true → IsSoFar before → IsSoFar (performs command ∷ before)
 unfolding cmd_in
@@ -396,7 +394,7 @@ statement_keeps statement.ProductPlacement before line said place is h =
     subst (λ (s : Said). IsSoFar (s ∷ before)) by.2 (of_reactions_kept before by.0 (product_placement_keeps (dims_of before) (length (species_of before)) (species_of before) (reactions_said before) line by.0 by.1 h.reactions) h)
 statement_keeps (statement.Block one) before line said place is h =
     let by = said_by of_blocks (block_line_in one (axes_of before) (species_of before) (blocks_said before) line) said is in
-    subst (λ (s : Said). IsSoFar (s ∷ before)) by.2 (blocks_keep one before line by.0 by.1 h)
+    subst (λ (s : Said). IsSoFar (s ∷ before)) by.2 (block_keeps one before line by.0 by.1 h)
 statement_keeps statement.OutputFiles before line said place is h =
     let by = said_by writes (output_files_in (outputs_of before) line) said is in
     subst (λ (s : Said). IsSoFar (s ∷ before)) by.2 (writes_kept before by.0 (files_are_few (outputs_of before) line by.0 by.1) h)

@@ -1,5 +1,5 @@
 -- What the lines of a configuration say together, a quantity each.
-use Rattle.std.specs.Prelude.{ℕ, ◌+◌, ℤ, ◌*ℤ◌, pos, false, true, List, [], ◌∷◌, ◌++◌, Option, None, Some, unwrap_or}
+use Rattle.std.specs.Prelude.{ℕ, ◌+◌, ℤ, pos, List, [], ◌∷◌, Option, unwrap_or}
 use Rattle.smol_types.specs.declared.draft.Draft.{Draft}
 use Rattle.smol_types.specs.declared.species.Species.{Species as TheSpecies}
 use Rattle.smol_line.specs.Axes.{walls_of}

@@ -1,6 +1,7 @@
 -- What the reader keeps of the lines read so far. This is no part of what a text means.
 use Rattle.std.specs.Prelude.{◌≡◌, ◌≤◌, ◌+◌, ◌==◌, ℕ, ℤ, unsigned_abs, true, List, [], ◌∷◌, length, Some, Result, Ok, Err, slice_index_or, if◌then◌else◌}
 use Rattle.smol_text.specs.Reading.{Stated}
+use Rattle.smol_types.specs.declared.draft.Draft.{Draft}
 use Rattle.smol_types.specs.declared.fault.Kind.{Kind}
 use Rattle.smol_types.specs.Limits.{most_outputs, most_species}
 use Rattle.smol_types.specs.declared.species.Species.{Species as TheSpecies}
@@ -15,12 +16,14 @@ use Rattle.smol_reactions.specs.Table.{Holds as HoldsReactions, IsKept}
 use Rattle.smol_config.specs.declared.motion.Motion.{Motion}
 use Rattle.smol_config.specs.declared.statement.Statement.{Statement}
 use Rattle.smol_config.specs.declared.tables.Tables.{Tables}
+use Rattle.smol_config.specs.declared.whole.Needed.{Needed}
+use Rattle.smol_config.specs.declared.whole.Parts.{Parts}
 use Rattle.smol_config.specs.Said.{Said}
 use Rattle.smol_config.specs.Axes.{axes_of}
 use Rattle.smol_config.specs.Species.{species_of}
 use Rattle.smol_config.specs.Motion.{still, motion_of, difstep_of}
 use Rattle.smol_config.specs.Times.{start_of, stop_of, step_of}
-use Rattle.smol_config.specs.MaxMol.{max_mol_of}
+use Rattle.smol_config.specs.MaxMol.{limit_of, max_mol_of}
 use Rattle.smol_config.specs.RandomSeed.{seed_of}
 use Rattle.smol_config.specs.Mol.{placings_of}
 use Rattle.smol_config.specs.Reactions.{reactions_said}
@@ -91,3 +94,23 @@ abbrev pub species_made : ℤ → List Motion → ℕ → List (List ℕ) → Li
 species_made time motions number [] = []
 species_made time motions number (name ∷ names) =
     record { name = name; step = difstep_of time (slice_index_or motions number still) } ∷ species_made time motions (number + 1) names
+
+-- the draft of these parts and of what the tables hand over
+abbrev pub drafted : Needed → Parts → Tables → Draft
+drafted needed parts tables = record {
+  dims = needed.dims;
+  species = parts.species;
+  walls = parts.walls;
+  surfaces = tables.blocks.surfaces;
+  panels = tables.blocks.panels;
+  compartments = tables.blocks.compartments;
+  reactions = tables.reactions.list.items;
+  placings = tables.placings;
+  commands = tables.commands;
+  outputs = parts.outputs;
+  start = parts.start;
+  stop = needed.stop;
+  step = needed.step;
+  max_mol = limit_of tables.max_mol;
+  seed = tables.seed;
+}

@@ -60,10 +60,7 @@ fn finish_whole(alloc: Global, tables: Tables) -> Result<Config, ConfigFault>
     ensures refused { IfErr result (λ fault. (before : List Said) → Holds tables before → Tells fault (whole_in before)) }
 {
     match tables.blocks.opening_line() {
-        Some(line) => Err(ConfigFault::At {
-            line,
-            kind: Kind::OpenBlock,
-        }),
+        Some(line) => Err(told_at(line, Refusal::At(Kind::OpenBlock))),
         None => match finish(alloc, tables) {
             Ok(config) => Ok(config),
             Err(refusal) => Err(told_at(0, refusal)),

@@ -118,12 +118,58 @@ const REACTIONS: [(&str, u32, Kind); 7] = [
     ),
 ];
 
-// The same of commands.
-const COMMANDS: [(&str, u32, Kind); 4] = [
+// The same of blocks and of molecules in compartments.
+const BLOCKS: [(&str, u32, Kind); 16] = [
+    ("action front A r", 9, Kind::BadOrder),
+    ("start_surface s\nspecies A", 10, Kind::BadOrder),
+    ("start_surface s\ndim", 10, Kind::BadOrder),
+    ("start_surface s\nstart_surface s", 10, Kind::BadOrder),
+    ("start_compartment c\ncmd", 10, Kind::BadOrder),
+    ("start_surface s\nbogus", 10, Kind::UnknownStatement),
+    ("start_surface s\nset", 10, Kind::NotInProfile),
+    (
+        "start_surface s\nend_surface\nstart_surface s",
+        11,
+        Kind::RepeatedName,
+    ),
+    (
+        "start_surface s\ncolor\naction both A q",
+        11,
+        Kind::BadAction,
+    ),
+    ("start_surface s\npanel circle", 10, Kind::NotInProfile),
+    ("start_compartment c\nsurface s", 10, Kind::UnknownName),
+    (
+        "start_compartment c\nend_compartment",
+        10,
+        Kind::Missing(Need::Point),
+    ),
+    ("\nstart_surface s\nend_file", 10, Kind::OpenBlock),
+    (
+        "start_compartment c\npoint 1 1 1\ndifc A 1e9",
+        11,
+        Kind::BadOrder,
+    ),
+    ("compartment_mol 1 A", 9, Kind::WrongWordCount),
+    ("compartment_mol 1 A c", 9, Kind::UnknownName),
+];
+
+// The same of commands and output files.
+const COMMANDS: [(&str, u32, Kind); 10] = [
     ("cmd", 9, Kind::WrongWordCount),
     ("cmd B", 9, Kind::BadTiming),
     ("cmd b bogus", 9, Kind::UnknownCommand),
-    ("cmd a molcount nofile", 9, Kind::UnknownOutlet),
+    ("cmd a molcount f\noutput_files f", 9, Kind::UnknownOutlet),
+    ("cmd b killmol B\nspecies B", 9, Kind::UnknownName),
+    ("cmd b molcountincmpt c stdout", 9, Kind::UnknownName),
+    ("cmd b pointsource A 1 1 1 101", 9, Kind::OutsideWalls),
+    ("output_files", 9, Kind::WrongWordCount),
+    (
+        "output_files f stdout\noutput_files g f",
+        10,
+        Kind::RepeatedName,
+    ),
+    ("cmd b stop\ncmd b echo stdout a", 10, Kind::WrongWordCount),
 ];
 
 // Whole texts, and the line and the kind of their fault.
@@ -307,6 +353,12 @@ fn reactions_are_refused(rt: HostRuntime) -> Result<(), Fail> {
 }
 
 #[test]
+fn blocks_are_refused(rt: HostRuntime) -> Result<(), Fail> {
+    assert_eq!(rt; accepted(rt.alloc(), BASE, &BLOCKS)?, None);
+    Ok(())
+}
+
+#[test]
 fn commands_are_refused(rt: HostRuntime) -> Result<(), Fail> {
     assert_eq!(rt; accepted(rt.alloc(), BASE, &COMMANDS)?, None);
     Ok(())
@@ -459,6 +511,53 @@ fn places_are_in_ticks(rt: HostRuntime) -> Result<(), Fail> {
     assert_eq!(rt; config.placings(), placings.as_slice());
     assert_eq!(rt; config.max_mol(), 1_000_000);
     assert_eq!(rt; config.seed(), None);
+    Ok(())
+}
+
+#[test]
+fn compartments_have_molecules(rt: HostRuntime) -> Result<(), Fail> {
+    let lines =
+        "start_compartment c\npoint 1 1 1\nend_compartment\nstart_compartment d\npoint 2 2 2\npoint 3 3 3\nend_compartment\ncompartment_mol 7 A d\n";
+    let config = behind_base(rt.alloc(), lines)?;
+    let placings = [Placing::InCompartment {
+        line: 16,
+        n: 7,
+        species: 0,
+        compartment: 1,
+    }];
+    assert_eq!(rt; config.placings(), placings.as_slice());
+    let compartments = config.compartments();
+    assert_eq!(rt; compartments.len(), 2);
+    assert_eq!(rt; compartments[1].points.len(), 2);
+    Ok(())
+}
+
+#[test]
+fn surfaces_have_panels(rt: HostRuntime) -> Result<(), Fail> {
+    let lines =
+        "start_surface s\nend_surface\nstart_surface t\naction front A a\npanel rect +0 1 2 3 4 5\nend_surface\n";
+    let config = behind_base(rt.alloc(), lines)?;
+    assert_eq!(rt; config.surfaces().len(), 2);
+    let panels = config.panels();
+    assert_eq!(rt; panels.len(), 1);
+    assert_eq!(rt; panels[0].surface, 1);
+    assert!(rt; panels[0].greater);
+    Ok(())
+}
+
+#[test]
+fn commands_name_files_in_order(rt: HostRuntime) -> Result<(), Fail> {
+    let lines =
+        "output_files f stdout\noutput_files stderr g\ncmd a molcount g\ncmd b listmols f\n";
+    let config = behind_base(rt.alloc(), lines)?;
+    let outputs = config.outputs();
+    assert_eq!(rt; outputs.len(), 2);
+    assert_eq!(rt; outputs[0].as_str(), "f");
+    assert_eq!(rt; outputs[1].as_str(), "g");
+    let commands = config.commands();
+    assert_eq!(rt; commands.len(), 2);
+    assert!(rt; matches!(&commands[0].act, Act::Count { out: 3 }));
+    assert!(rt; matches!(&commands[1].act, Act::List { out: 2 }));
     Ok(())
 }
 

@@ -2,25 +2,30 @@
 ghost use Rattle.std.specs.Prelude.{◌≡◌, ◌≤◌, ◌<ℤ◌, ◌++◌, true, false, pos, ℕ, List, Option, length, Ok, Err, IfOk, IfSome, OnOk, MatchResult, nat_le, sum_by, unsigned_abs};
 ghost use Rattle.std.specs.List.{list_all};
 ghost use Rattle.smol_types.specs.declared.fault.Kind.{Kind as TheKind};
-ghost use Rattle.smol_types.specs.Limits.{latest, most_species};
+ghost use Rattle.smol_types.specs.Limits.{latest, most_species, most_steps};
 ghost use Rattle.smol_types.specs.Placings.{placed_by};
 ghost use Rattle.smol_line.specs.declared.refusal.Refusal.TheVariants.{At};
 ghost use Rattle.smol_line.specs.Axes.{walls_at, walls_of};
 ghost use Rattle.smol_line.specs.Fault.{fault_at};
-ghost use Rattle.smol_reactions.specs.Content.{chances_of};
+ghost use Rattle.smol_types.specs.Steps.{last_step};
+ghost use Rattle.smol_reactions.specs.Content.{are_shared, chances_of};
 ghost use Rattle.smol_reactions.specs.Table.{IsKept};
 ghost use Rattle.smol_config.specs.Reactions.{reactions_said};
 ghost use Rattle.smol_config.specs.Said.{Said};
 ghost use Rattle.smol_config.specs.Motion.{difstep_of};
-ghost use Rattle.smol_config.specs.Content.{content_of};
-ghost use Rattle.smol_config.specs.Tables.{AreSmall, Holds, IsReached, species_made};
+ghost use Rattle.smol_config.specs.Content.{content_of, started};
+ghost use Rattle.smol_config.specs.Tables.{AreSmall, Holds, IsReached, drafted, species_made};
 ghost use Rattle.smol_config.specs.Whole.{bounded, has_chances, has_difstep, has_few_steps, needed_in, closed_in};
 
 use crate::motion::{MOST_DIFSTEP, Motion, difstep_of};
 use crate::species_table::SpeciesTable;
 use crate::tables::Tables;
+use smol_blocks::Blocks;
 use smol_line::{Axes, Bounds, NameSet, Refusal, is_walled, unless};
-use smol_types::{Config, Draft, Items, Kind, Name, Need, Placing, Species, Wall, last_step};
+use smol_types::{
+    Compartment, Config, Draft, Items, Kind, Name, Need, Panel, Placing, Species, Surface, Wall,
+    last_step,
+};
 use std::alloc::{AllocError, Global};
 
 /// How many steps a run may make.
@@ -163,7 +168,92 @@ fn are_few(placings: &[Placing], most: u32) -> bool
     true
 }
 
-// What the lines make together, as long as the steps are few and the difsteps small.
+// The surfaces, panels and compartments whose blocks are closed.
+fn block_lists(blocks: Blocks) -> (Items<Surface>, Items<Panel>, Items<Compartment>)
+    ensures surfaces { result.0 ≡ blocks.surfaces }
+    ensures panels { result.1 ≡ blocks.panels }
+    ensures compartments { result.2 ≡ blocks.compartments }
+{
+    (blocks.surfaces, blocks.panels, blocks.compartments)
+}
+
+/// What of a draft is made from the tables, and not taken out of them.
+#[derive(Drop)]
+pub struct Parts {
+    pub start: i64,
+    pub species: Items<Species>,
+    pub walls: Items<Wall>,
+    pub outputs: Items<Name>,
+}
+
+// The parts of a draft, as long as the steps are few, the difsteps small and the probabilities no more than 1.
+fn parts_of(alloc: Global, needed: Needed, tables: &Tables) -> Result<Parts, Refusal>
+    requires start { IfSome tables.now.start (λ time. unsigned_abs time ≤ latest) }
+    requires stop { unsigned_abs needed.stop ≤ latest }
+    requires step { unsigned_abs needed.step ≤ latest }
+    requires step_above { pos 0 <ℤ needed.step }
+    requires x { IfSome tables.now.axes.x AreSmall }
+    requires y { IfSome tables.now.axes.y AreSmall }
+    requires z { IfSome tables.now.axes.z AreSmall }
+    requires species { length tables.now.species.names ≤ most_species }
+    requires kept { IsKept tables.now.reactions }
+    ensures start { IfOk result (λ parts. parts.start ≡ started tables.now.start) }
+    ensures species { IfOk result (λ parts. parts.species ≡ species_made needed.step tables.now.species.motions.items 0 tables.now.species.names) }
+    ensures walls { IfOk result (λ parts. parts.walls ≡ walls_of tables.now.axes) }
+    ensures outputs { IfOk result (λ parts. parts.outputs ≡ tables.now.outputs) }
+    ensures few { IfOk result (λ parts. nat_le (last_step parts.start needed.stop needed.step) most_steps ≡ true) }
+    ensures near { IfOk result (λ parts. list_all has_difstep parts.species ≡ true) }
+    ensures shared { IfOk result (λ parts. are_shared (length parts.species) tables.now.reactions.list.items tables.now.reactions.chances.items ≡ true) }
+    ensures refused { (kind : TheKind) (before : List Said) → result ≡ Err (At kind) → Holds tables.now before
+        → bounded (chances_of (reactions_said before)) (content_of needed before) ≡ Err kind }
+{
+    let start = tables.start.unwrap_or(0);
+    let few = last_step(start, needed.stop, needed.step) <= MOST_STEPS;
+    unless(few, Kind::TooMany)?;
+    let species = make_species(alloc, &tables.species, needed.step)?;
+    let shared = tables
+        .reactions
+        .are_shared(tables.species.names.len() as u16);
+    unless(shared, Kind::ProbabilitySum)?;
+    let walls = walls_of(alloc, &tables.axes)?;
+    let outputs = make_names(alloc, &tables.outputs)?;
+    Ok(Parts {
+        start,
+        species,
+        walls,
+        outputs,
+    })
+}
+
+// The draft of these parts and of what the tables hand over.
+fn drafted(needed: Needed, parts: Parts, tables: Tables) -> Draft
+    requires stop { unsigned_abs needed.stop ≤ latest }
+    requires step { unsigned_abs needed.step ≤ latest }
+    requires start { unsigned_abs parts.start ≤ latest }
+    ensures { result ≡ drafted needed parts tables }
+{
+    let (surfaces, panels, compartments) = block_lists(tables.blocks);
+    let reactions = tables.reactions.into_list();
+    Draft {
+        dims: needed.dims,
+        species: parts.species,
+        walls: parts.walls,
+        surfaces,
+        panels,
+        compartments,
+        reactions,
+        placings: tables.placings,
+        commands: tables.commands,
+        outputs: parts.outputs,
+        start: parts.start,
+        stop: needed.stop,
+        step: needed.step,
+        max_mol: tables.max_mol.unwrap_or(DEFAULT_MAX_MOL),
+        seed: tables.seed,
+    }
+}
+
+// What the lines make together, as long as the steps are few, the difsteps small and the probabilities no more than 1.
 fn draft_of(alloc: Global, needed: Needed, tables: Tables) -> Result<Draft, Refusal>
     requires start { IfSome tables.start (λ time. unsigned_abs time ≤ latest) }
     requires stop { unsigned_abs needed.stop ≤ latest }
@@ -181,34 +271,8 @@ fn draft_of(alloc: Global, needed: Needed, tables: Tables) -> Result<Draft, Refu
     ensures refused { (kind : TheKind) (before : List Said) → result ≡ Err (At kind) → Holds tables before
         → bounded (chances_of (reactions_said before)) (content_of needed before) ≡ Err kind }
 {
-    let start = tables.start.unwrap_or(0);
-    let few = last_step(start, needed.stop, needed.step) <= MOST_STEPS;
-    unless(few, Kind::TooMany)?;
-    let species = make_species(alloc, &tables.species, needed.step)?;
-    let shared = tables
-        .reactions
-        .are_shared(tables.species.names.len() as u16);
-    unless(shared, Kind::ProbabilitySum)?;
-    let walls = walls_of(alloc, &tables.axes)?;
-    let outputs = make_names(alloc, &tables.outputs)?;
-    let reactions = tables.reactions.into_list();
-    Ok(Draft {
-        dims: needed.dims,
-        species,
-        walls,
-        surfaces: tables.blocks.surfaces,
-        panels: tables.blocks.panels,
-        compartments: tables.blocks.compartments,
-        reactions,
-        placings: tables.placings,
-        commands: tables.commands,
-        outputs,
-        start,
-        stop: needed.stop,
-        step: needed.step,
-        max_mol: tables.max_mol.unwrap_or(DEFAULT_MAX_MOL),
-        seed: tables.seed,
-    })
+    let parts = parts_of(alloc, needed, &tables)?;
+    Ok(drafted(needed, parts, tables))
 }
 
 // What the lines make together, unless too many molecules are placed.

@@ -8,6 +8,8 @@ use Rattle.smol_meaning.specs.Seen.{plates_of}
 use Rattle.smol_meaning.specs.Stretch.{Stretch}
 use Rattle.smol_meaning.proofs.Courses.{run_confines, run_is_kept}
 use Rattle.smol_meaning.proofs.Crossings.{crosses_none}
+use Rattle.smol_confined.proofs.Filling.{events_of_run_are_confined}
+use Rattle.smol_confined.proofs.Linked.{run_is_confined}
 use Rattle.smol_run.specs.declared.words.Job.{Job}
 use Rattle.smol_run.specs.declared.words.Job.TheVariants.{File}
 use Rattle.smol_run.specs.Outcome.{seed_of}
@@ -20,6 +22,8 @@ text_safe seed text draft run accepted ran =
       crosses_none = λ i d within. crosses_none (plates_of draft (get_or run.moves i d).species) (get_or run.moves i d).from (get_or run.moves i d).by;
       confined = run_confines draft (seed_of seed draft) run sound ran;
       states = (run_is_kept draft (seed_of seed draft) run sound ran).0;
+      stays = λ box closed. run_is_confined draft (seed_of seed draft) run box sound ran closed;
+      events = λ box closed. events_of_run_are_confined draft (seed_of seed draft) run box sound ran closed;
     }
 
 file_safe : (seed : Option ℕ) (contents : Option (List ℕ)) → FileGoesSafely seed contents

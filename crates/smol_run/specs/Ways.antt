@@ -8,24 +8,28 @@ use Rattle.smol_meaning.specs.Box.{Confines, IsClosed, IsInside}
 use Rattle.smol_meaning.specs.Crossing.{CrossesNone}
 use Rattle.smol_meaning.specs.Motion.{Move}
 use Rattle.smol_meaning.specs.Run.{run_of}
-use Rattle.smol_meaning.specs.Seen.{plates_of}
+use Rattle.smol_meaning.specs.Seen.{IsClosedBox, plates_of}
 use Rattle.smol_meaning.specs.Stretch.{Stretch}
+use Rattle.smol_confined.specs.Laws.{EventsOfRunAreConfined, RunIsConfined}
 use Rattle.smol_run.specs.declared.words.Job.{Job}
 use Rattle.smol_run.specs.declared.words.Job.TheVariants.{File}
 use Rattle.smol_run.specs.Outcome.{seed_of}
 
 -- no way of the run crosses a face that reflects its species, each way that starts inside a closed reflecting box stays in it, and
--- each state fits the configuration
-pub record GoesSafely (draft : Draft) (run : Stretch) : Type 0 where
+-- each state fits the configuration. A molecule that is inside a closed reflecting box in one state is inside it in each later one, or
+-- gone; and in each step the products of what is inside are inside, and no molecule inside reacts with one outside
+pub record GoesSafely (draft : Draft) (seed : ℕ) (run : Stretch) : Type 0 where
   pub crosses_none : All (λ (move : Move). CrossesNone (plates_of draft move.species) move.from move.by) run.moves
   pub confined : All (λ (move : Move). (box : Cuboid) → IsClosed draft.dims (plates_of draft move.species) box → IsInside box move.from
       → Confines (plates_of draft move.species) move.from move.by box) run.moves
   pub states : All (Fits draft) run.states
+  pub stays : (box : Cuboid) → IsClosedBox draft box → RunIsConfined run box
+  pub events : (box : Cuboid) → IsClosedBox draft box → EventsOfRunAreConfined draft seed run box
 
 -- the run of this text, where it is accepted and begins, goes safely
 abbrev pub TextGoesSafely : Option ℕ → List ℕ → Type 0
 TextGoesSafely seed text =
-    (draft : Draft) (run : Stretch) → config_of text ≡ Ok draft → run_of draft (seed_of seed draft) ≡ Ok run → GoesSafely draft run
+    (draft : Draft) (run : Stretch) → config_of text ≡ Ok draft → run_of draft (seed_of seed draft) ≡ Ok run → GoesSafely draft (seed_of seed draft) run
 
 abbrev pub FileGoesSafely : Option ℕ → Option (List ℕ) → Type 0
 FileGoesSafely seed None = Unit {0}

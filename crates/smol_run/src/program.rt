@@ -49,7 +49,8 @@ pub fn run_program<R: Threads + Sync, S: Source, K: Outlets, G: Gate + Sync>(
     ensures absent { IfSome (S.told source.old) (λ reading.
         outcome_of (map (λ word. string_bytes word) words.now) reading.contents ≡ None → IsLost result) }
 
-    // In the run itself no way crosses a face that reflects it, nor leaves a closed reflecting box.
+    // In the run itself no way crosses a face that reflects it, nor leaves a closed reflecting box, and what is inside such a box
+    // stays inside, with all that it makes.
     ensures ways { IfSome (S.told source.old) (λ reading.
         JobGoesSafely (job_of (map (λ word. string_bytes word) words.now)) (map (λ word. string_bytes word) words.now) reading.contents) }
 

@@ -1,13 +1,15 @@
-use Rattle.std.proofs.Common.{sym, ap, ◌∙◌}
+use Rattle.std.proofs.Common.{ap, ◌∙◌}
 use Rattle.std.proofs.lemmas.Result.{err_from_is_err_and}
 use Rattle.smol_config.specs.Said.{performs, say}
 use Rattle.smol_config.specs.Reader.{statement_in}
-use Rattle.smol_config.proofs.Held.{commands_held, cmd_rule}
+use Rattle.smol_config.proofs.Held.{commands_held, cmd_refused, cmd_rule}
 use Rattle.smol_config.proofs.tables.Tables.read_cmd.Goals as goal
 
 pub returns-in_err-command : goal.returns-in_err-command
-unfolding statement_in
-returns-in_err-command c = ?
+returns-in_err-command c =
+    let p = err_from_is_err_and c.from_residual.result c.from_residual.ensures.1 in
+    cmd_refused c.args.line.now c.args.self.now c.len-count.result p.0 c.from_residual.result p.1 c.len-count.ensures
+    (λ kind is. c.in_err-command.ensures.refused kind (cc (p.2, is)))
 
 pub returns : goal.returns
 unfolding statement_in

@@ -1,10 +1,5 @@
-use Rattle.std.proofs.Common.{◌≡◌, sym, ap, ◌∙◌}
+use Rattle.std.proofs.Common.{sym, ap, ◌∙◌}
 use Rattle.std.proofs.lemmas.Result.{err_from_is_err_and}
-use Rattle.smol_blocks.specs.Blocks.{compartment_names}
-use Rattle.smol_config.specs.Axes.{axes_of}
-use Rattle.smol_config.specs.Species.{species_of}
-use Rattle.smol_config.specs.Blocks.{blocks_said}
-use Rattle.smol_config.specs.CompartmentMol.{compartment_mol_in}
 use Rattle.smol_config.specs.Said.{places, say}
 use Rattle.smol_config.specs.Reader.{statement_in}
 use Rattle.smol_config.proofs.Held.{placings_held, compartment_mol_rule}

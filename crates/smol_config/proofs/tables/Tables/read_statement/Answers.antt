@@ -15,3 +15,6 @@ returns-in-NotInProfile c before holds = rw c.in-NotInProfile.is refl
 pub returns-in-Unknown : goal.returns-in-Unknown
 unfolding statement_in
 returns-in-Unknown c before holds = rw c.in-Unknown.is refl
+
+pub read_species-requires : goal.read_species-requires
+read_species-requires c before h = let place = c.requires.place before h in (rw c.in-Species.is at place)
