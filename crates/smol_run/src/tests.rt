@@ -484,3 +484,103 @@ fn a_molecule_is_listed_where_it_stands(rt: HostRuntime) -> Result<(), Fail> {
     meets(&rt, &row)?;
     Ok(())
 }
+
+/// Lines behind the first eight of `LINES`, and what they print to standard output and to a file.
+const PRINTING: [(&[&str], &str, &str); 3] = [
+    (
+        &[
+            "mol 3 A 50 50 50",
+            "cmd b molcount stdout",
+            "cmd a molcount stdout",
+        ],
+        "0 3\n1 3\n",
+        "",
+    ),
+    (
+        &[
+            "species B",
+            "mol 3 A 50 50 50",
+            "cmd @ 0 replacemol A B 1",
+            "cmd @ 0 pointsource A 2 10 20 30",
+            "cmd @ 0 ifmore A 1 echo stdout \"many\\n\"",
+            "cmd @ 0 ifno B stop",
+            "cmd @ 1 killmol B",
+            "cmd a listmols stdout",
+        ],
+        "many\nA(solution) 10 20 30 4\nA(solution) 10 20 30 5\n",
+        "",
+    ),
+    (
+        &[
+            "output_files o.txt",
+            "mol 3 A 50 50 50",
+            "cmd b molcount o.txt",
+        ],
+        "",
+        "0 3\n",
+    ),
+];
+
+// What the first file holds, which is nothing where none is open.
+fn file_bytes(outlets: &MemOutlets) -> &[u8] {
+    if outlets.names().is_empty() {
+        &[]
+    } else {
+        outlets.bytes(2)
+    }
+}
+
+// Runs a text over outlets that take so many bytes at once and fail at one call alone, and tells whether they met it. Where they
+// did, what they hold is a front, and else all is there.
+fn meets_failure<R: Abort + AllocGlobal + Sync + Threads>(
+    rt: &R,
+    text: &str,
+    most: usize,
+    call: u32,
+    stdout: &str,
+    file: &str,
+) -> Result<bool, AllocError> {
+    let words = owned(rt.alloc(), &["f"])?;
+    let mut source = MemSource::of(rt.alloc(), "f", text.as_bytes(), &[])?;
+    let mut outlets = MemOutlets::of(rt.alloc(), &[call], most)?;
+    let status = run_program(rt, rt.alloc(), &words, &mut source, &mut outlets, &Open);
+    assert_eq!(rt; outlets.bytes(1).len(), 0);
+    if status == Status::Output {
+        assert!(rt; stdout.as_bytes().starts_with(outlets.bytes(0)));
+        assert!(rt; file.as_bytes().starts_with(file_bytes(&outlets)));
+        return Ok(true);
+    }
+    assert_eq!(rt; status, Status::Done);
+    assert_eq!(rt; outlets.bytes(0), stdout.as_bytes());
+    assert_eq!(rt; file_bytes(&outlets), file.as_bytes());
+    Ok(false)
+}
+
+// Lets each call of the outlets fail in turn, until a run meets none that fails.
+fn leaves_fronts<R: Abort + AllocGlobal + Sync + Threads>(
+    rt: &R,
+    text: &str,
+    most: usize,
+    stdout: &str,
+    file: &str,
+) -> Result<(), AllocError> {
+    for call in 1..100 {
+        if !meets_failure(rt, text, most, call, stdout, file)? {
+            assert!(rt; call > 1);
+            return Ok(());
+        }
+    }
+    panic!(rt; "some call fails in every run")
+}
+
+#[test]
+fn a_failing_write_leaves_a_front(rt: HostRuntime) -> Result<(), Fail> {
+    for (lines, stdout, file) in PRINTING {
+        let mut text = text_of(rt.alloc(), &LINES[..8])?;
+        text.push_str(&text_of(rt.alloc(), lines)?)?;
+        for most in [1, 3, 4096] {
+            leaves_fronts(&rt, &text, most, stdout, file)?;
+        }
+    }
+    Ok(())
+}
