@@ -542,7 +542,7 @@ fn meets_failure<R: Abort + AllocGlobal + Sync + Threads>(
 ) -> Result<bool, AllocError> {
     let words = owned(rt.alloc(), &["f"])?;
     let mut source = MemSource::of(rt.alloc(), "f", text.as_bytes(), &[])?;
-    let mut outlets = MemOutlets::of(rt.alloc(), &[call], most)?;
+    let mut outlets = MemOutlets::of(rt.alloc(), &[call], most.max(1))?;
     let status = run_program(rt, rt.alloc(), &words, &mut source, &mut outlets, &Open);
     assert_eq!(rt; outlets.bytes(1).len(), 0);
     if status == Status::Output {
