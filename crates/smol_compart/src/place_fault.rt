@@ -1,5 +1,4 @@
 use std::alloc::{AllocError, AllocFailed};
-use std::fmt;
 
 /// Why molecules are not placed.
 #[derive(Clone, Copy, Debug, PartialEq, Eq)]
@@ -10,19 +9,6 @@ pub enum PlaceFault {
     /// There was no memory left for the molecules.
     OutOfMemory,
 }
-
-impl fmt::Display for PlaceFault {
-    fn fmt<W: fmt::Write>(&self, f: &mut fmt::Formatter<W>) -> fmt::Result {
-        match self {
-            PlaceFault::NoPlace { line, serial } => {
-                write!(f, "line {line}: no place found for molecule {serial}")
-            }
-            PlaceFault::OutOfMemory => write!(f, "out of memory"),
-        }
-    }
-}
-
-impl std::error::Error for PlaceFault {}
 
 impl From<AllocError> for PlaceFault {
     ghost use Rattle.std.specs.Prelude.{◌≡◌};

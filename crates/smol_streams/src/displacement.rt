@@ -12,7 +12,7 @@ pub fn scale(g: i64, s: u32) -> i64
     ensures even { IsEven result }
     ensures size { unsigned_abs result ≤ 12 * s + 2 }
 {
-    2 * nearest(weighed(g, s))
+    2 * rounded(weighed(g, s))
 }
 
 // The centred sum times the difstep.
@@ -24,7 +24,7 @@ fn weighed(g: i64, s: u32) -> i64
 }
 
 // The number over the deviation, rounded to the nearest whole number, and a half up.
-fn nearest(number: i64) -> i64
+fn rounded(number: i64) -> i64
     requires { unsigned_abs number ≤ 2 ^ 60 }
     ensures { result ≡ floor_of (number +ℤ pos 32768) 65536 }
 {

@@ -1,7 +1,6 @@
 ghost use Rattle.std.specs.Prelude.{◌≡◌};
 ghost use Rattle.smol_types.specs.Fault.{need_text, kind_text};
 
-use std::fmt;
 
 /// A statement that a configuration can't do without.
 #[derive(Clone, Copy, Debug, PartialEq, Eq)]
@@ -104,17 +103,3 @@ pub enum ConfigFault {
     At { line: u32, kind: Kind },
     OutOfMemory,
 }
-
-impl fmt::Display for ConfigFault {
-    fn fmt<W: fmt::Write>(&self, f: &mut fmt::Formatter<W>) -> fmt::Result {
-        match self {
-            ConfigFault::At { line, kind } => {
-                let text = kind.text();
-                write!(f, "line {line}: {text}")
-            }
-            ConfigFault::OutOfMemory => write!(f, "out of memory"),
-        }
-    }
-}
-
-impl std::error::Error for ConfigFault {}
