@@ -168,7 +168,8 @@ start_compartment_in axes before line =
     (with_value (needs_dim axes) (λ dims.
     passing (word_count 2 line ∷ [])
     (with_value (new_name_in (compartment_names before) (word_at line 1)) (λ name.
-    passing (unless (nat_lt (length (compartment_names before)) most_compartments) TooMany ∷ []) (Ok (opens_compartment line.number name))))))
+    passing (unless (nat_lt (length (compartment_names before)) most_compartments) TooMany ∷ [])
+    (Ok (opens_compartment line.number name))))))
 
 -- what is said of the surface whose block is open
 abbrev pub say_surface : Result SurfaceSaid Kind → Result BlockSaid Kind
@@ -188,7 +189,8 @@ end_surface_in axes species before line no_block = Err BadOrder
 end_surface_in axes species before line (in_surface opened lines) =
     with_value (needs_dim axes) (λ dims.
     passing (word_count 1 line ∷ [])
-    (Ok (closes_surface (surface_of (known_to dims species before) lines) (panels_in (length (surfaces_of before)) (length (panels_of before)) lines))))
+    (Ok (closes_surface (surface_of (known_to dims species before) lines)
+    (panels_in (length (surfaces_of before)) (length (panels_of before)) lines))))
 end_surface_in axes species before line (in_compartment opened lines) = Err BadOrder
 
 -- `surface NAME` in the block of a compartment, by the block that is open

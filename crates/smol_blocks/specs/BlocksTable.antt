@@ -51,6 +51,7 @@ pub record IsKept (species : ℕ) (table : Blocks) : Type 0 where
 
 -- how the reading of a line ends: it is taken and the table holds what it says too, or its fault is told, or memory ran out
 abbrev pub Reads : {T : Type 0} → (List BlockSaid → Result BlockSaid Kind) → Blocks → Blocks → Result T Refusal → Type 0
-Reads rule old new (Ok done) = (said : List BlockSaid) → Holds old said → (more : BlockSaid) × (rule said ≡ Ok more) × Holds new (more ∷ said)
+Reads rule old new (Ok done) = (said : List BlockSaid) → Holds old said → (more : BlockSaid) × (rule said ≡ Ok more)
+    × Holds new (more ∷ said)
 Reads rule old new (Err (At kind)) = (said : List BlockSaid) → Holds old said → rule said ≡ Err kind
 Reads rule old new (Err OutOfMemory) = Unit {0}

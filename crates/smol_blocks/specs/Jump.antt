@@ -1,4 +1,5 @@
--- `jump P FACE ARROW Q FACE`: where a jump from a face of a panel leads. Both panels are of the surface, across one axis and with equal edges.
+-- `jump P FACE ARROW Q FACE`: where a jump from a face of a panel leads. Both panels are of the surface, across one
+-- axis and with equal edges.
 use Rattle.std.specs.Prelude.{ℕ, ◌==◌, ◌&&◌, Bool, true, false, ℤ, ◌-ℤ◌, List, [], ◌∷◌, Result, Ok, Err, if◌then◌else◌, codes, slice_index_or}
 use Rattle.std.specs.Ordering.{int_eq}
 use Rattle.std.specs.Str.{bytes_eq}
@@ -24,7 +25,8 @@ edge_of rect axis = on_axis rect.high axis -ℤ on_axis rect.low axis
 
 -- two rectangles lie across one axis and have equal edges
 abbrev pub are_congruent : Rect → Rect → Bool
-are_congruent a b = (a.axis == b.axis) && int_eq (edge_of a 0) (edge_of b 0) && int_eq (edge_of a 1) (edge_of b 1) && int_eq (edge_of a 2) (edge_of b 2)
+are_congruent a b =
+    (a.axis == b.axis) && int_eq (edge_of a 0) (edge_of b 0) && int_eq (edge_of a 1) (edge_of b 1) && int_eq (edge_of a 2) (edge_of b 2)
 
 -- a rectangle to speak of where there is none
 abbrev pub no_rect : Rect

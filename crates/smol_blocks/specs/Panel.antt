@@ -1,4 +1,5 @@
--- `panel SHAPE SIGNEDAXIS CORNER ... EDGE ... [NAME]`: a rectangle across an axis. It has a coordinate of its corner for each axis in use, and an edge for each other one.
+-- `panel SHAPE SIGNEDAXIS CORNER ... EDGE ... [NAME]`: a rectangle across an axis. It has a coordinate of its
+-- corner for each axis in use, and an edge for each other one.
 use Rattle.std.specs.Prelude.{ℕ, ◌+◌, ◌-◌, ◌||◌, ◌==◌, nat_le, nat_lt, not, Bool, true, false, ℤ, pos, ◌+ℤ◌, ◌-ℤ◌, ◌*ℤ◌, List, [], ◌∷◌, ◌++◌, length, drop, Option, None, Some, Result, Ok, Err, if◌then◌else◌, codes}
 use Rattle.std.specs.Fmt.{decimal}
 use Rattle.std.specs.Str.{bytes_eq}

@@ -89,7 +89,8 @@ abbrev pub nearer : {T : Type 0} → Option T → Option T → Option T
 nearer None older = older
 nearer (Some value) older = Some value
 
--- where a jump from a face of the panel of a number leads, by the nearest line before that says it: the number of a panel of the surface, and its face
+-- where a jump from a face of the panel of a number leads, by the nearest line before that says it: the number of a
+-- panel of the surface, and its face
 abbrev pub led_to : ℕ → Face → List SurfaceSaid → Option (ℕ × Face)
 led_to panel one [] = None
 led_to panel one (acts acting ∷ before) = led_to panel one before
@@ -114,4 +115,5 @@ actions_from one number (name ∷ names) before = acting_on one number before �
 
 -- the surface of a block
 unfoldable pub surface_of : Known → List SurfaceSaid → TheSurface
-surface_of known before = record { front = actions_from face.Front 0 known.species before; back = actions_from face.Back 0 known.species before }
+surface_of known before =
+    record { front = actions_from face.Front 0 known.species before; back = actions_from face.Back 0 known.species before }

@@ -39,8 +39,10 @@ pub record AddsJump (old new : PanelTable) (leading : Leading) : Type 0 where
   pub names : new.names ≡ old.names
   pub rects : new.rects.items ≡ old.rects.items
   pub sides : new.sides.items ≡ old.sides.items
-  pub front_to : (panel : ℕ) → slice_index_or new.front_to.items panel None ≡ nearer (led_by leading panel Front) (slice_index_or old.front_to.items panel None)
-  pub back_to : (panel : ℕ) → slice_index_or new.back_to.items panel None ≡ nearer (led_by leading panel Back) (slice_index_or old.back_to.items panel None)
+  pub front_to : (panel : ℕ) → slice_index_or new.front_to.items panel None
+      ≡ nearer (led_by leading panel Front) (slice_index_or old.front_to.items panel None)
+  pub back_to : (panel : ℕ) → slice_index_or new.back_to.items panel None
+      ≡ nearer (led_by leading panel Back) (slice_index_or old.back_to.items panel None)
 
 -- each table is its look-up over what the lines of the block so far say
 pub record Holds (table : SurfaceTable) (before : List SurfaceSaid) : Type 0 where
@@ -53,7 +55,8 @@ pub record Holds (table : SurfaceTable) (before : List SurfaceSaid) : Type 0 whe
   pub back_to : (panel : ℕ) → slice_index_or table.panels.back_to.items panel None ≡ led_to panel Back before
 
 -- how the reading of a line ends: it is taken and the table holds what it says too, or its fault is told, or memory ran out
-abbrev pub Reads : {T : Type 0} → (List SurfaceSaid → Stated → Result SurfaceSaid Kind) → Stated → SurfaceTable → SurfaceTable → Result T Refusal → Type 0
+abbrev pub Reads : {T : Type 0} → (List SurfaceSaid → Stated → Result SurfaceSaid Kind) → Stated → SurfaceTable
+    → SurfaceTable → Result T Refusal → Type 0
 Reads rule line old new (Ok done) =
     (before : List SurfaceSaid) → Holds old before → (said : SurfaceSaid) × (rule before line ≡ Ok said) × Holds new (said ∷ before)
 Reads rule line old new (Err (At kind)) = (before : List SurfaceSaid) → Holds old before → rule before line ≡ Err kind

@@ -51,9 +51,11 @@ impl ActionTable {
         requires front { acting.who.end ≤ length self.old.front.items }
         requires back { acting.who.end ≤ length self.old.back.items }
         ensures front { (species : ℕ) → slice_index_or self.new.front.items species Transmit
-            ≡ (if means_face acting.faces Front && is_chosen species acting.who then acting.action else slice_index_or self.old.front.items species Transmit) }
+            ≡ (if means_face acting.faces Front && is_chosen species acting.who then acting.action
+            else slice_index_or self.old.front.items species Transmit) }
         ensures back { (species : ℕ) → slice_index_or self.new.back.items species Transmit
-            ≡ (if means_face acting.faces Back && is_chosen species acting.who then acting.action else slice_index_or self.old.back.items species Transmit) }
+            ≡ (if means_face acting.faces Back && is_chosen species acting.who then acting.action
+            else slice_index_or self.old.back.items species Transmit) }
         ensures front_count { length self.new.front.items ≡ length self.old.front.items }
         ensures back_count { length self.new.back.items ≡ length self.old.back.items }
     {

@@ -137,7 +137,8 @@ impl Blocks {
         requires axes { AreAxes axes.now }
         requires kept { IsKept (length species.now) self.old }
         ensures kept { OnOk result (IsKept (length species.now) self.new) }
-        ensures reads { Reads (λ said. in_surface_in statement axes.now species.now said line.now (block_of said)) self.old self.new result }
+        ensures reads { Reads (λ said. in_surface_in statement axes.now species.now said line.now
+            (block_of said)) self.old self.new result }
     {
         match mem::replace(&mut self.block, OpenBlock::Nothing) {
             OpenBlock::Surface {
@@ -184,7 +185,8 @@ impl Blocks {
         requires new { is_named self.old.compartment_names name.now ≡ false }
         requires room { length self.old.compartment_names < most_compartments }
         ensures kept { OnOk result ((species : ℕ) → IsKept species self.old → IsKept species self.new) }
-        ensures holds { OnOk result ((said : List BlockSaid) → Holds self.old said → Holds self.new (opens_compartment line name.now ∷ said)) }
+        ensures holds { OnOk result ((said : List BlockSaid) → Holds self.old said
+            → Holds self.new (opens_compartment line name.now ∷ said)) }
     {
         self.compartment_names.add(alloc, name)?;
         self.block = OpenBlock::Compartment {

@@ -7,11 +7,14 @@ ghost use Rattle.smol_blocks.specs.declared.block_statement.BlockStatement.{Bloc
 ghost use Rattle.smol_blocks.specs.Blocks.{BlockSaid, block_line_in, block_of, compartment_names, compartments_of, is_outside, surface_names, surfaces_of};
 ghost use Rattle.smol_blocks.specs.BlocksSound.{AreBlocks};
 
-/// What lines without a fault say of blocks is sound: nothing said is, a line more keeps it so, and so does `dim`, which stands before every block.
+/// What lines without a fault say of blocks is sound: nothing said is, a line more keeps it so, and so does `dim`,
+/// which stands before every block.
 #[tactic(auto, using(crate::proofs::SoundBlocks::blocks_keep, crate::proofs::SoundBlocks::no_blocks, crate::proofs::SoundBlocks::axes_given))]
 pub fn lines_keep_blocks_sound()
-    ensures line { (statement : BlockStatement) (axes : Axes) (species : List (List ℕ)) (said : List BlockSaid) (line : Stated) (more : BlockSaid)
-        → block_line_in statement axes species said line ≡ Ok more → AreAxes axes → AreBlocks axes.dims said → AreBlocks axes.dims (more ∷ said) }
+    ensures line { (statement : BlockStatement) (axes : Axes) (species : List (List ℕ)) (said : List BlockSaid)
+        (line : Stated) (more : BlockSaid)
+        → block_line_in statement axes species said line ≡ Ok more → AreAxes axes → AreBlocks axes.dims said
+        → AreBlocks axes.dims (more ∷ said) }
     ensures nothing { (dims : Option ℕ) → AreBlocks dims [] }
     ensures axes { (dims : ℕ) (said : List BlockSaid) → AreBlocks None said → AreBlocks (Some dims) said }
 {}
@@ -28,6 +31,8 @@ pub fn named_blocks_are_closed()
 /// No line takes a compartment away.
 #[tactic(auto, using(crate::proofs::SoundBlocks::compartments_grow))]
 pub fn lines_keep_compartments()
-    ensures { (statement : BlockStatement) (axes : Axes) (species : List (List ℕ)) (said : List BlockSaid) (line : Stated) (more : BlockSaid)
-        → block_line_in statement axes species said line ≡ Ok more → length (compartments_of said) ≤ length (compartments_of (more ∷ said)) }
+    ensures { (statement : BlockStatement) (axes : Axes) (species : List (List ℕ)) (said : List BlockSaid)
+        (line : Stated) (more : BlockSaid)
+        → block_line_in statement axes species said line ≡ Ok more
+        → length (compartments_of said) ≤ length (compartments_of (more ∷ said)) }
 {}

@@ -75,9 +75,11 @@ impl PanelTable {
         ensures rects { self.new.rects.items ≡ self.old.rects.items }
         ensures sides { self.new.sides.items ≡ self.old.sides.items }
         ensures front_to { (panel : ℕ) → slice_index_or self.new.front_to.items panel None
-            ≡ (if (from == panel) && same_face from_face Front then Some (to, to_face) else slice_index_or self.old.front_to.items panel None) }
+            ≡ (if (from == panel) && same_face from_face Front then Some (to, to_face)
+            else slice_index_or self.old.front_to.items panel None) }
         ensures back_to { (panel : ℕ) → slice_index_or self.new.back_to.items panel None
-            ≡ (if (from == panel) && same_face from_face Back then Some (to, to_face) else slice_index_or self.old.back_to.items panel None) }
+            ≡ (if (from == panel) && same_face from_face Back then Some (to, to_face)
+            else slice_index_or self.old.back_to.items panel None) }
         ensures front_count { length self.new.front_to.items ≡ length self.old.front_to.items }
         ensures back_count { length self.new.back_to.items ≡ length self.old.back_to.items }
     {

@@ -14,7 +14,8 @@ code_of d = 1 + (if d.fired then 2 else 0) + (if d.low_taken then 4 else 0) + (i
 -- the decision in a word, which is none at 0
 abbrev pub decision_in : ℕ → Option Decision
 decision_in word =
-    if word == 0 then None else Some record { fired = (word / 2) % 2 == 1; low_taken = (word / 4) % 2 == 1; high_taken = (word / 8) % 2 == 1 }
+    if word == 0 then None
+    else Some record { fired = (word / 2) % 2 == 1; low_taken = (word / 4) % 2 == 1; high_taken = (word / 8) % 2 == 1 }
 
 -- what serial matching decides of a pair
 abbrev pub serial_decision : List Pair → ℕ → Decision

@@ -86,4 +86,5 @@ told_by_decision move me found me' =
 -- what a step on a counter tells, where it is for the link on this side
 abbrev pub told_by_tell : Side → SeatStep → SeatKnows → ℕ → SeatKnows → Type 0
 told_by_tell side move me found me' =
-    (me'.1 ≡ me.1) × ((j : ℕ) → j < length me.0.pairs → move.word ≡ counter_at me.0.pairs j → TellsLink me.0 (record { pair = j; side = side }) found me'.0)
+    (me'.1 ≡ me.1) × ((j : ℕ) → j < length me.0.pairs → move.word ≡ counter_at me.0.pairs j
+    → TellsLink me.0 (record { pair = j; side = side }) found me'.0)

@@ -56,7 +56,8 @@ impl Claims {
         requires hand { IsInHand seat.old.me.0 stack.old.items }
         requires room { length self.now.pairs ≤ vec_capacity stack.old }
         ensures sits { SitsAt seat.new.table_id seat.new.me self.now }
-        ensures owed { (k : ℕ) (t : Side) → has_link seat.new.me.0.owed k t ≡ (not (comes_by self.now.pairs pair side k t) && has_link seat.old.me.0.owed k t) }
+        ensures owed { (k : ℕ) (t : Side) → has_link seat.new.me.0.owed k t
+            ≡ (not (comes_by self.now.pairs pair side k t) && has_link seat.old.me.0.owed k t) }
         ensures hand { IsInHand seat.new.me.0 stack.new.items }
         ensures mine { seat.new.me.0.mine ≡ seat.old.me.0.mine }
         ensures seen { seat.new.me.0.seen ≡ seat.old.me.0.seen }

@@ -48,4 +48,5 @@ test_of condition.More species line at =
 -- the same, where the line has so many words
 unfoldable pub test_in : Condition → List (List ℕ) → Stated → ℕ → Result Test Kind
 test_in condition species line at =
-    passing (unless (nat_le (at + condition_words condition) (length (words_of line))) WrongWordCount ∷ []) (test_of condition species line at)
+    passing (unless (nat_le (at + condition_words condition) (length (words_of line))) WrongWordCount ∷ [])
+    (test_of condition species line at)

@@ -12,9 +12,11 @@ ghost use Rattle.smol_cmd.specs.OutputFiles.{output_files_in};
 
 /// The command of a line without a fault is sound, and there was room for it.
 pub fn commands_are_sound()
-    ensures sound { (known : Known) (count : ℕ) (line : Stated) (command : Command) → cmd_in known count line ≡ Ok command → AreAxes known.axes
+    ensures sound { (known : Known) (count : ℕ) (line : Stated) (command : Command)
+        → cmd_in known count line ≡ Ok command → AreAxes known.axes
         → IsCommand (length known.species) (length known.compartments) (length known.outputs) (walls_of known.axes) command }
-    ensures room { (known : Known) (count : ℕ) (line : Stated) (command : Command) → cmd_in known count line ≡ Ok command → count < most_commands }
+    ensures room { (known : Known) (count : ℕ) (line : Stated) (command : Command)
+        → cmd_in known count line ≡ Ok command → count < most_commands }
 {}
 
 /// A sound command stays so where there are more species, compartments and output files.
@@ -25,5 +27,6 @@ pub fn commands_stay_sound()
 
 /// The names of a line without a fault leave no more output files than there may be.
 pub fn output_files_are_few()
-    ensures { (outputs : List (List ℕ)) (line : Stated) (more : List (List ℕ)) → output_files_in outputs line ≡ Ok more → length (outputs ++ more) ≤ most_outputs }
+    ensures { (outputs : List (List ℕ)) (line : Stated) (more : List (List ℕ))
+        → output_files_in outputs line ≡ Ok more → length (outputs ++ more) ≤ most_outputs }
 {}

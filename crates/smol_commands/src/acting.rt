@@ -38,7 +38,8 @@ pub fn perform(
     ensures performed { IfOk result (Performs (performed_at config.now streams.old c state.old) state.new out.old out.new) }
     ensures fits { OnOk result (Fits config.now state.new) }
     ensures serials { OnOk result (state.new.next ≤ state.old.next + 1000000) }
-    ensures too_many { IsErrOf result CommandFault.TooManyMolecules → (performed_at config.now streams.old c state.old).ending ≡ Over state.old.step }
+    ensures too_many { IsErrOf result CommandFault.TooManyMolecules
+        → (performed_at config.now streams.old c state.old).ending ≡ Over state.old.step }
     ensures unchanged { IsErrOf result CommandFault.TooManyMolecules → state.new ≡ state.old }
     ensures seed { streams.new ≡ streams.old }
 {
@@ -61,13 +62,15 @@ fn act(
     out: &mut Pages,
 ) -> Result<Flow, CommandFault>
     requires sound { IsSound config.now }
-    requires does { IsAct (length config.now.species) (length config.now.compartments) (length config.now.outputs) config.now.walls act.now }
+    requires does { IsAct (length config.now.species) (length config.now.compartments)
+        (length config.now.outputs) config.now.walls act.now }
     requires fits { Fits config.now state.old }
     requires next { state.old.next + 1000000 ≤ last_serial }
     requires pages { length out.old ≡ 2 + length config.now.outputs }
 
     ensures performed { IfOk result (Performs (effect_of config.now streams.old c state.old act.now) state.new out.old out.new) }
-    ensures too_many { IsErrOf result CommandFault.TooManyMolecules → (effect_of config.now streams.old c state.old act.now).ending ≡ Over state.old.step }
+    ensures too_many { IsErrOf result CommandFault.TooManyMolecules
+        → (effect_of config.now streams.old c state.old act.now).ending ≡ Over state.old.step }
     ensures unchanged { IsErrOf result CommandFault.TooManyMolecules → state.new ≡ state.old }
     ensures seed { streams.new ≡ streams.old }
 {

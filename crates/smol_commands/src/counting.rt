@@ -31,7 +31,8 @@ pub fn counts_inside(
     requires compartment { compartment < length config.now.compartments }
     requires species { All (λ (mol : TheMol). mol.species < length config.now.species) mols.now }
     requires places { All (λ (mol : TheMol). IsPlaceWithin (2 ^ 57) mol.place) mols.now }
-    ensures { IfOk result (λ counts. counts.items ≡ counts_from (filter (λ (mol : TheMol). is_inside config.now compartment mol.place) mols.now) 0 config.now.species) }
+    ensures { IfOk result (λ counts. counts.items
+        ≡ counts_from (filter (λ (mol : TheMol). is_inside config.now compartment mol.place) mols.now) 0 config.now.species) }
 {
     let mut counts = vec![in alloc; 0u64; config.species().len()]?;
     for mol in mols {

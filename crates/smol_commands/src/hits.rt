@@ -43,7 +43,9 @@ impl Chance<'_> {
     pub fn kill(&self, streams: &mut Streams, mols: &mut Vec<Mol>)
         requires step { self.now.step ≤ most_steps }
         requires few { vec_len mols.old ≤ most_molecules }
-        ensures left { mols.new.items ≡ filter_ranked (λ rank mol. not (is_hit streams.old self.now.command self.now.step self.now.who.now self.now.p rank mol)) 0 mols.old.items }
+        ensures left { mols.new.items
+            ≡ filter_ranked (λ rank mol.
+            not (is_hit streams.old self.now.command self.now.step self.now.who.now self.now.p rank mol)) 0 mols.old.items }
         ensures seed { streams.new ≡ streams.old }
     {
         let mut kept = 0;
@@ -61,7 +63,10 @@ impl Chance<'_> {
     pub fn replace(&self, streams: &mut Streams, to: u16, mols: &mut Vec<Mol>)
         requires step { self.now.step ≤ most_steps }
         requires few { vec_len mols.old ≤ most_molecules }
-        ensures turned { mols.new.items ≡ map_ranked (λ rank mol. if is_hit streams.old self.now.command self.now.step self.now.who.now self.now.p rank mol then turned_into to mol else mol) 0 mols.old.items }
+        ensures turned { mols.new.items
+            ≡ map_ranked (λ rank mol.
+            if is_hit streams.old self.now.command self.now.step self.now.who.now self.now.p rank mol
+            then turned_into to mol else mol) 0 mols.old.items }
         ensures seed { streams.new ≡ streams.old }
     {
         for rank in 0..mols.len() {

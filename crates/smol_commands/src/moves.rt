@@ -40,7 +40,9 @@ fn leave_others(who: &[u16], mols: &mut Vec<Mol>)
 pub fn kill_hit(alloc: Global, chance: &Chance, streams: &mut Streams, state: &mut State)
     requires step { chance.now.step ≤ most_steps }
     requires few { length state.old.mols ≤ most_molecules }
-    ensures left { state.new ≡ with_mols state.old (filter_ranked (λ rank mol. not (is_hit streams.old chance.now.command chance.now.step chance.now.who.now chance.now.p rank mol)) 0 state.old.mols) }
+    ensures left { state.new
+        ≡ with_mols state.old (filter_ranked (λ rank mol.
+        not (is_hit streams.old chance.now.command chance.now.step chance.now.who.now chance.now.p rank mol)) 0 state.old.mols) }
     ensures seed { streams.new ≡ streams.old }
 {
     let mut mols = take_mols(alloc, state);
@@ -58,7 +60,10 @@ pub fn replace_hit(
 )
     requires step { chance.now.step ≤ most_steps }
     requires few { length state.old.mols ≤ most_molecules }
-    ensures turned { state.new ≡ with_mols state.old (map_ranked (λ rank mol. if is_hit streams.old chance.now.command chance.now.step chance.now.who.now chance.now.p rank mol then turned_into to mol else mol) 0 state.old.mols) }
+    ensures turned { state.new
+        ≡ with_mols state.old (map_ranked (λ rank mol.
+        if is_hit streams.old chance.now.command chance.now.step chance.now.who.now chance.now.p rank mol
+        then turned_into to mol else mol) 0 state.old.mols) }
     ensures seed { streams.new ≡ streams.old }
 {
     let mut mols = take_mols(alloc, state);

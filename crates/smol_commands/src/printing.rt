@@ -38,7 +38,8 @@ pub fn print_counts(
     requires outlet { outlet < length out.old }
     requires step { step ≤ last_step config.now.start config.now.stop config.now.step }
     requires species { All (λ (mol : TheMol). mol.species < length config.now.species) mols.now }
-    ensures { OnOk result (Adds ((outlet, count_line (time_of config.now step) (counts_from mols.now 0 config.now.species)) ∷ []) out.old out.new) }
+    ensures { OnOk result (Adds
+        ((outlet, count_line (time_of config.now step) (counts_from mols.now 0 config.now.species)) ∷ []) out.old out.new) }
 {
     let counts = counts_of(alloc, config.species(), mols)?;
     let time = time_of(config, step);
@@ -60,7 +61,13 @@ pub fn print_counts_inside(
     requires step { step ≤ last_step config.now.start config.now.stop config.now.step }
     requires species { All (λ (mol : TheMol). mol.species < length config.now.species) mols.now }
     requires places { All (λ (mol : TheMol). IsPlaceWithin (2 ^ 57) mol.place) mols.now }
-    ensures { OnOk result (Adds ((outlet, count_line (time_of config.now step) (counts_from (filter (λ (mol : TheMol). is_inside config.now compartment mol.place) mols.now) 0 config.now.species)) ∷ []) out.old out.new) }
+    ensures { OnOk result (Adds
+        ((
+          outlet,
+          count_line (time_of config.now step)
+              (counts_from (filter (λ (mol : TheMol). is_inside config.now compartment mol.place) mols.now) 0 config.now.species),
+        ) ∷ [])
+        out.old out.new) }
 {
     let counts = counts_inside(alloc, config, compartment, mols)?;
     let time = time_of(config, step);
@@ -117,7 +124,9 @@ pub fn print_positions(
 ) -> Result<(), AllocError>
     requires outlet { outlet < length out.old }
     requires step { step ≤ last_step config.now.start config.now.stop config.now.step }
-    ensures { OnOk result (Adds ((outlet, positions_line config.now (time_of config.now step) (filter (is_meant who.now) mols.now)) ∷ []) out.old out.new) }
+    ensures { OnOk result (Adds
+        ((outlet, positions_line config.now (time_of config.now step) (filter (is_meant who.now) mols.now)) ∷ [])
+        out.old out.new) }
 {
     add_positions(
         config,
@@ -150,7 +159,8 @@ fn add_places(
     who: &[u16],
     page: &mut Vec<u8>,
 ) -> Result<(), AllocError>
-    ensures { OnOk result (page.new.items ≡ page.old.items ++ flat_map (λ (mol : TheMol). place_text config.now mol.place) (filter (is_meant who.now) mols.now)) }
+    ensures { OnOk result (page.new.items ≡ page.old.items
+        ++ flat_map (λ (mol : TheMol). place_text config.now mol.place) (filter (is_meant who.now) mols.now)) }
 {
     for mol in mols {
         if is_meant(who, mol) {

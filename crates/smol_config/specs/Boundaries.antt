@@ -19,7 +19,9 @@ unfoldable pub letter_in : List ℕ → Result Letter Kind
 letter_in word =
     if bytes_eq word (codes "r")
     then Ok R
-    else (if bytes_eq word (codes "p") then Ok P else (if bytes_eq word (codes "a") then Ok A else (if bytes_eq word (codes "t") then Ok T else Err BadAction)))
+    else (if bytes_eq word (codes "p") then Ok P
+    else (if bytes_eq word (codes "a") then Ok A
+    else (if bytes_eq word (codes "t") then Ok T else Err BadAction)))
 
 -- the letter of a line, which is `t` where it has none
 abbrev pub line_letter : Stated → Result Letter Kind

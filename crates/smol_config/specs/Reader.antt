@@ -51,7 +51,8 @@ statement_in CompartmentMol before line =
 statement_in Reaction before line = say of_reactions (reaction_said (species_of before) (reactions_said before) line)
 statement_in BindingRadius before line = say of_reactions (binding_radius_said (reactions_said before) line)
 statement_in ReactionProbability before line = say of_reactions (reaction_probability_said (reactions_said before) line)
-statement_in ProductPlacement before line = say of_reactions (product_placement_said (dims_of before) (species_of before) (reactions_said before) line)
+statement_in ProductPlacement before line =
+    say of_reactions (product_placement_said (dims_of before) (species_of before) (reactions_said before) line)
 statement_in (Block one) before line = say of_blocks (block_line_in one (axes_of before) (species_of before) (blocks_said before) line)
 statement_in OutputFiles before line = say writes (output_files_in (outputs_of before) line)
 statement_in Cmd before line = say performs (cmd_in (known_of before) (length (commands_of before)) line)
@@ -91,4 +92,6 @@ most_bytes = 4194304
 
 -- what a text says as a configuration, or its first fault
 unfoldable pub config_of : List ℕ → Result Draft Fault
-config_of text = if nat_lt most_bytes (length text) then Err (fault_at 0 kind.TooLong) else with_value (lines_in (statements_of text)) config_from
+config_of text =
+    if nat_lt most_bytes (length text) then Err (fault_at 0 kind.TooLong)
+    else with_value (lines_in (statements_of text)) config_from

@@ -31,4 +31,5 @@ pub record IsSoFar (before : List Said) : Type 0 where
   pub outputs : length (outputs_of before) ≤ most_outputs
   pub command_count : length (commands_of before) ≤ most_commands
   pub commands :
-      All (IsCommand (length (species_of before)) (compartment_count before) (length (outputs_of before)) (walls_of (axes_of before))) (commands_of before)
+      All (IsCommand (length (species_of before)) (compartment_count before) (length (outputs_of before))
+      (walls_of (axes_of before))) (commands_of before)

@@ -122,7 +122,8 @@ statement_of word =
     then PassedOver
     else (if list_any (bytes_eq word) left_out_words then NotInProfile else named built word)
 
--- a statement may stand where it does, by whether no block is open. Those of blocks test their own place, and other lines are judged in blocks as outside
+-- a statement may stand where it does, by whether no block is open. Those of blocks test their own place, and other
+-- lines are judged in blocks as outside
 abbrev pub may_stand : Statement → Bool → Bool
 may_stand PassedOver outside = true
 may_stand NotInProfile outside = true

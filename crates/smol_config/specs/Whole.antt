@@ -64,7 +64,8 @@ bounded chances draft =
 
 -- what a file says whose blocks are closed, or the fault of the whole
 unfoldable pub closed_in : List Said → Result Draft Fault
-closed_in before = at_line 0 (with_value (needed_in before) (λ needed. bounded (chances_of (reactions_said before)) (content_of needed before)))
+closed_in before =
+    at_line 0 (with_value (needed_in before) (λ needed. bounded (chances_of (reactions_said before)) (content_of needed before)))
 
 -- a block that is open at the end comes first, as a fault of the line that opened it
 abbrev pub behind_blocks : Option ℕ → Result Draft Fault → Result Draft Fault

@@ -37,7 +37,8 @@ fn add_names(
     line: &StatedLine<'_>,
 ) -> Result<(), Refusal>
     ensures names { OnOk result (species.new.names ≡ species.old.names ++ further_words line.now) }
-    ensures motions { OnOk result ((number : ℕ) → slice_index_or species.new.motions.items number still ≡ slice_index_or species.old.motions.items number still) }
+    ensures motions { OnOk result ((number : ℕ)
+        → slice_index_or species.new.motions.items number still ≡ slice_index_or species.old.motions.items number still) }
     ensures accepted { OnOk result (names_fault species.old.names (further_words line.now) ≡ None) }
     ensures refused { (kind : TheKind) → result ≡ Err (At kind) → names_fault species.old.names (further_words line.now) ≡ Some kind }
 {
@@ -51,9 +52,12 @@ fn add_names(
 #[tactic(auto, unfolding(crate::specs::Species::species_in))]
 pub fn read(alloc: Global, species: &mut SpeciesTable, line: &StatedLine<'_>) -> Result<(), Refusal>
     ensures names { OnOk result (species.new.names ≡ species.old.names ++ further_words line.now) }
-    ensures motions { OnOk result ((number : ℕ) → slice_index_or species.new.motions.items number still ≡ slice_index_or species.old.motions.items number still) }
-    ensures accepted { OnOk result ((before : List Said) → species.old.names ≡ species_of before → species_in before line.now ≡ Ok (further_words line.now)) }
-    ensures refused { (kind : TheKind) (before : List Said) → result ≡ Err (At kind) → species.old.names ≡ species_of before → species_in before line.now ≡ Err kind }
+    ensures motions { OnOk result ((number : ℕ)
+        → slice_index_or species.new.motions.items number still ≡ slice_index_or species.old.motions.items number still) }
+    ensures accepted { OnOk result ((before : List Said)
+        → species.old.names ≡ species_of before → species_in before line.now ≡ Ok (further_words line.now)) }
+    ensures refused { (kind : TheKind) (before : List Said)
+        → result ≡ Err (At kind) → species.old.names ≡ species_of before → species_in before line.now ≡ Err kind }
 {
     unless(line.len() >= 2, Kind::WrongWordCount)?;
     add_names(alloc, species, line)?;

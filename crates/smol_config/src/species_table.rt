@@ -59,7 +59,8 @@ impl SpeciesTable {
         requires within { chosen.end ≤ length self.old.names }
         ensures names { self.new.names ≡ self.old.names }
         ensures motions { (number : ℕ) → slice_index_or self.new.motions.items number still
-            ≡ (if nat_le chosen.first number && nat_lt number chosen.end then motion else slice_index_or self.old.motions.items number still) }
+            ≡ (if nat_le chosen.first number && nat_lt number chosen.end then motion
+            else slice_index_or self.old.motions.items number still) }
     {
         set_all(self.motions.as_mut_slice(), chosen, motion);
     }

@@ -106,7 +106,9 @@ fn walls_of(alloc: Global, axes: &Axes) -> Result<Items<Wall>, AllocError>
 
 // The difstep of a motion, where a step takes this time.
 fn difstep_in(motion: Motion, time: i64) -> Result<u32, Kind>
-    ensures { MatchResult result (λ step. (step ≡ difstep_of time motion) × (step ≤ 1000000000)) (λ kind. (kind ≡ Kind.OutOfRange) × (nat_le (difstep_of time motion) 1000000000 ≡ false)) }
+    ensures { MatchResult result
+        (λ step. (step ≡ difstep_of time motion) × (step ≤ 1000000000))
+        (λ kind. (kind ≡ Kind.OutOfRange) × (nat_le (difstep_of time motion) 1000000000 ≡ false)) }
 {
     let step = difstep_of(motion, time);
     if step <= u64::from(MOST_DIFSTEP) {
@@ -198,12 +200,14 @@ fn parts_of(alloc: Global, needed: Needed, tables: &Tables) -> Result<Parts, Ref
     requires species { length tables.now.species.names ≤ most_species }
     requires kept { IsKept tables.now.reactions }
     ensures start { IfOk result (λ parts. parts.start ≡ started tables.now.start) }
-    ensures species { IfOk result (λ parts. parts.species ≡ species_made needed.step tables.now.species.motions.items 0 tables.now.species.names) }
+    ensures species { IfOk result (λ parts. parts.species
+        ≡ species_made needed.step tables.now.species.motions.items 0 tables.now.species.names) }
     ensures walls { IfOk result (λ parts. parts.walls ≡ walls_of tables.now.axes) }
     ensures outputs { IfOk result (λ parts. parts.outputs ≡ tables.now.outputs) }
     ensures few { IfOk result (λ parts. nat_le (last_step parts.start needed.stop needed.step) most_steps ≡ true) }
     ensures near { IfOk result (λ parts. list_all has_difstep parts.species ≡ true) }
-    ensures shared { IfOk result (λ parts. are_shared (length parts.species) tables.now.reactions.list.items tables.now.reactions.chances.items ≡ true) }
+    ensures shared { IfOk result
+        (λ parts. are_shared (length parts.species) tables.now.reactions.list.items tables.now.reactions.chances.items ≡ true) }
     ensures refused { (kind : TheKind) (before : List Said) → result ≡ Err (At kind) → Holds tables.now before
         → bounded (chances_of (reactions_said before)) (content_of needed before) ≡ Err kind }
 {
@@ -293,7 +297,8 @@ fn bounded(draft: Draft) -> Result<Draft, Kind>
 pub fn finish(alloc: Global, tables: Tables) -> Result<Config, Refusal>
     requires { IsReached tables }
     ensures accepted { IfOk result (λ config. (before : List Said) → Holds tables before → closed_in before ≡ Ok config) }
-    ensures refused { (kind : TheKind) (before : List Said) → result ≡ Err (At kind) → Holds tables before → closed_in before ≡ Err (fault_at 0 kind) }
+    ensures refused { (kind : TheKind) (before : List Said) → result ≡ Err (At kind) → Holds tables before
+        → closed_in before ≡ Err (fault_at 0 kind) }
 {
     let needed = needed_in(&tables)?;
     let draft = draft_of(alloc, needed, tables)?;

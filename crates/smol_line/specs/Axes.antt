@@ -60,7 +60,8 @@ pub record AreAxes (axes : Axes) : Type 0 where
   pub y : IfSome axes.y (IsBounded axes.dims 1)
   pub z : IfSome axes.z (IsBounded axes.dims 2)
 
--- what the word of a line for an axis means, where the words of the axes begin at this place. An axis without walls isn't in use, and has this value
+-- what the word of a line for an axis means, where the words of the axes begin at this place. An axis without walls
+-- isn't in use, and has this value
 abbrev pub read_axis : {T : Type 0} → (Bounds → List ℕ → Result T Kind) → T → ℕ → ℕ → Option Bounds → Stated → Result T Kind
 read_axis meaning unused first axis None line = Ok unused
 read_axis meaning unused first axis (Some bounds) line = meaning bounds (word_at line (first + axis))

@@ -1,4 +1,5 @@
--- The tests of a line, in the order in which they are made: the first that fails is the line's fault, and where none fails the line has its value.
+-- The tests of a line, in the order in which they are made: the first that fails is the line's fault, and where
+-- none fails the line has its value.
 use Rattle.std.specs.Prelude.{ℕ, Bool, true, false, ◌==◌, List, [], ◌∷◌, length, Option, None, Some, Result, Ok, Err}
 use Rattle.smol_text.specs.Reading.{Stated, words_of}
 use Rattle.smol_types.specs.declared.fault.Kind.{Kind}

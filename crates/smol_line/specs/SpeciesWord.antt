@@ -45,7 +45,8 @@ one_chosen (Err kind) = Err kind
 
 -- the species that a word means, of these names: the word `all` means each of them
 abbrev pub chosen_in : List (List ℕ) → List ℕ → Result Chosen Kind
-chosen_in names word = if bytes_eq word (codes "all") then Ok (record { first = 0; end = length names }) else one_chosen (species_word_in names word)
+chosen_in names word =
+    if bytes_eq word (codes "all") then Ok (record { first = 0; end = length names }) else one_chosen (species_word_in names word)
 
 -- whether the species of a number is among these
 abbrev pub is_chosen : ℕ → Chosen → Bool

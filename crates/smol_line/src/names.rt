@@ -64,7 +64,9 @@ pub fn name_in(word: &[u8]) -> Option<&str>
 
 /// The new name that a word gives, beside these names.
 pub fn new_name_in<'a>(names: &NameSet, word: &'a [u8]) -> Result<&'a str, Kind>
-    ensures rule { MatchResult result (λ text. new_name_in names.now word.now ≡ Ok text.now) (λ kind. new_name_in names.now word.now ≡ Err kind) }
+    ensures rule { MatchResult result
+        (λ text. new_name_in names.now word.now ≡ Ok text.now)
+        (λ kind. new_name_in names.now word.now ≡ Err kind) }
     ensures value { MatchResult result (λ text. text.now ≡ word.now) (λ _. Unit {0}) }
 {
     let Some(text) = name_in(word) else {

@@ -11,7 +11,8 @@ use Rattle.smol_meaning.specs.Timing.{is_due}
 
 -- the command is performed where it is due
 abbrev pub performed_if_due : Draft → ℕ → Phase → ℕ → State → Command → Stretch
-performed_if_due draft seed phase c state command = if is_due draft phase command.«when» then performed draft seed c state command else idle state
+performed_if_due draft seed phase c state command =
+    if is_due draft phase command.«when» then performed draft seed c state command else idle state
 
 -- what the command of this number does in a phase
 abbrev pub due_at : Draft → ℕ → Phase → ℕ → State → Stretch

@@ -53,7 +53,8 @@ fn perform_command<K: Outlets>(
     requires opened { K.opened outlets.old ≡ length config.now.outputs }
 
     ensures ended { EndsPart (performed_at config.now streams.old c state.old) state.new result }
-    ensures given { Tells (K.told outlets.old) (K.told outlets.new) (GivesPart (performed_at config.now streams.old c state.old).pieces result) }
+    ensures given { Tells (K.told outlets.old) (K.told outlets.new)
+        (GivesPart (performed_at config.now streams.old c state.old).pieces result) }
     ensures blank { OnOk result (pages.new ≡ replicate (2 + length config.now.outputs) []) }
     ensures opened { K.opened outlets.new ≡ K.opened outlets.old }
     ensures faults { CountsFault result (K.faults outlets.old) (K.faults outlets.new) }
@@ -89,7 +90,8 @@ fn perform_if_due<K: Outlets>(
     requires opened { K.opened outlets.old ≡ length config.now.outputs }
 
     ensures ended { EndsPart (due_at config.now streams.old phase c state.old) state.new result }
-    ensures given { Tells (K.told outlets.old) (K.told outlets.new) (GivesPart (due_at config.now streams.old phase c state.old).pieces result) }
+    ensures given { Tells (K.told outlets.old) (K.told outlets.new)
+        (GivesPart (due_at config.now streams.old phase c state.old).pieces result) }
     ensures blank { OnOk result (pages.new ≡ replicate (2 + length config.now.outputs) []) }
     ensures opened { K.opened outlets.new ≡ K.opened outlets.old }
     ensures faults { CountsFault result (K.faults outlets.old) (K.faults outlets.new) }
@@ -120,7 +122,8 @@ pub fn perform_due<K: Outlets>(
     requires opened { K.opened outlets.old ≡ length config.now.outputs }
 
     ensures ended { EndsPart (phase_of config.now streams.old phase state.old) state.new result }
-    ensures given { Tells (K.told outlets.old) (K.told outlets.new) (GivesPart (phase_of config.now streams.old phase state.old).pieces result) }
+    ensures given { Tells (K.told outlets.old) (K.told outlets.new)
+        (GivesPart (phase_of config.now streams.old phase state.old).pieces result) }
     ensures fits { OnOk result (Fits config.now state.new) }
     ensures serials { OnOk result (state.new.next ≤ state.old.next + 256000000) }
     ensures step { OnOk result (state.new.step ≡ state.old.step) }

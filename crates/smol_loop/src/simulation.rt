@@ -44,8 +44,11 @@ fn begin_and_step<R: Threads + Sync, K: Outlets, G: Gate + Sync>(
     requires blank { pages.old ≡ replicate (2 + length config.now.outputs) [] }
     requires opened { K.opened outlets.old ≡ length config.now.outputs }
 
-    ensures ended { EndsPart (followed_by (phase_of config.now seed phase.Before state.old) (steps_from config.now seed (steps_of config.now))) state.new result }
-    ensures given { Tells (K.told outlets.old) (K.told outlets.new) (GivesPart (followed_by (phase_of config.now seed phase.Before state.old) (steps_from config.now seed (steps_of config.now))).pieces result) }
+    ensures ended { EndsPart (followed_by (phase_of config.now seed phase.Before state.old)
+        (steps_from config.now seed (steps_of config.now))) state.new result }
+    ensures given { Tells (K.told outlets.old) (K.told outlets.new)
+        (GivesPart (followed_by (phase_of config.now seed phase.Before state.old)
+        (steps_from config.now seed (steps_of config.now))).pieces result) }
     ensures fits { OnOk result (Fits config.now state.new) }
     ensures serials { OnOk result (state.new.next ≤ 1088000513000001) }
     ensures blank { OnOk result (pages.new ≡ replicate (2 + length config.now.outputs) []) }

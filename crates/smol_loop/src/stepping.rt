@@ -104,8 +104,11 @@ fn perform_and_step<R: Threads + Sync, K: Outlets, G: Gate + Sync>(
     requires blank { pages.old ≡ replicate (2 + length config.now.outputs) [] }
     requires opened { K.opened outlets.old ≡ length config.now.outputs }
 
-    ensures ended { EndsPart (followed_by (phase_of config.now seed (phase.At state.old.step) state.old) (step_of config.now seed)) state.new result }
-    ensures given { Tells (K.told outlets.old) (K.told outlets.new) (GivesPart (followed_by (phase_of config.now seed (phase.At state.old.step) state.old) (step_of config.now seed)).pieces result) }
+    ensures ended { EndsPart (followed_by (phase_of config.now seed (phase.At state.old.step) state.old)
+        (step_of config.now seed)) state.new result }
+    ensures given { Tells (K.told outlets.old) (K.told outlets.new)
+        (GivesPart (followed_by (phase_of config.now seed (phase.At state.old.step) state.old)
+        (step_of config.now seed)).pieces result) }
     ensures fits { OnOk result (Fits config.now state.new) }
     ensures serials { OnOk result (state.new.next ≤ state.old.next + 272000000) }
     ensures step { result ≡ Ok Flow.Go → state.new.step ≡ state.old.step + 1 }
@@ -153,7 +156,8 @@ pub fn make_steps<R: Threads + Sync, K: Outlets, G: Gate + Sync>(
     requires opened { K.opened outlets.old ≡ length config.now.outputs }
 
     ensures ended { EndsPart (steps_from config.now seed (steps_of config.now) state.old) state.new result }
-    ensures given { Tells (K.told outlets.old) (K.told outlets.new) (GivesPart (steps_from config.now seed (steps_of config.now) state.old).pieces result) }
+    ensures given { Tells (K.told outlets.old) (K.told outlets.new)
+        (GivesPart (steps_from config.now seed (steps_of config.now) state.old).pieces result) }
     ensures fits { OnOk result (Fits config.now state.new) }
     ensures serials { OnOk result (state.new.next ≤ state.old.next + 1088000256000000) }
     ensures blank { OnOk result (pages.new ≡ replicate (2 + length config.now.outputs) []) }

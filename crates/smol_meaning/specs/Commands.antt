@@ -78,7 +78,8 @@ effect_of draft seed c state (act.Kill who) = becomes (with_mols state (filter (
 effect_of draft seed c state (act.KillProb who p) =
     becomes (with_mols state (filter_ranked (λ rank mol. not (is_hit seed c state.step who p rank mol)) 0 state.mols))
 effect_of draft seed c state (act.Replace who to p) =
-    becomes (with_mols state (map_ranked (λ rank mol. if is_hit seed c state.step who p rank mol then turned_into to mol else mol) 0 state.mols))
+    becomes (with_mols state
+    (map_ranked (λ rank mol. if is_hit seed c state.step who p rank mol then turned_into to mol else mol) 0 state.mols))
 effect_of draft seed c state (act.PointSource species n place) =
     if nat_lt draft.max_mol (length state.mols + n)
     then is_over state state.step

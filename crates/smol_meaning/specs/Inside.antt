@@ -14,7 +14,8 @@ is_bounding surfaces panel = list_any (nat_eq panel.surface) surfaces
 
 -- whether the straight line between two places meets no panel of the surfaces
 abbrev pub is_clear : List Panel → List ℕ → Place → Place → Bool
-is_clear panels surfaces a b = not (list_any (λ (panel : Panel). line_meets (Rectangle panel.rect) a b) (filter (is_bounding surfaces) panels))
+is_clear panels surfaces a b =
+    not (list_any (λ (panel : Panel). line_meets (Rectangle panel.rect) a b) (filter (is_bounding surfaces) panels))
 
 -- whether a place is inside a compartment: from it the straight line to some interior-defining point is clear
 abbrev pub is_inside_of : List Panel → Compartment → Place → Bool

@@ -36,7 +36,8 @@ coordinate_unused (At x) = x
 abbrev pub coordinates_at : ℕ → ℕ → ℕ → ℕ → List Wall → List Given → List ℤ
 coordinates_at seed serial try axis walls [] = []
 coordinates_at seed serial try axis [] (given ∷ more) = coordinate_unused given ∷ coordinates_at seed serial try (axis + 1) [] more
-coordinates_at seed serial try axis (lower ∷ []) (given ∷ more) = coordinate_unused given ∷ coordinates_at seed serial try (axis + 1) [] more
+coordinates_at seed serial try axis (lower ∷ []) (given ∷ more) =
+    coordinate_unused given ∷ coordinates_at seed serial try (axis + 1) [] more
 coordinates_at seed serial try axis (lower ∷ upper ∷ walls) (given ∷ more) =
     coordinate_at seed serial try axis lower upper given ∷ coordinates_at seed serial try (axis + 1) walls more
 
@@ -87,7 +88,8 @@ placed_together (Ok mols) (Ok more) = Ok (mols ++ more)
 abbrev pub placed_from : Draft → ℕ → ℕ → List Placing → Result (List Mol) NoPlace
 placed_from draft seed serial [] = Ok []
 placed_from draft seed serial (placing ∷ placings) =
-    placed_together (placed_many draft seed placing serial (placed_by placing)) (placed_from draft seed (serial + placed_by placing) placings)
+    placed_together (placed_many draft seed placing serial (placed_by placing))
+    (placed_from draft seed (serial + placed_by placing) placings)
 
 -- the state of these molecules before the first step
 abbrev pub opened : Draft → List Mol → State

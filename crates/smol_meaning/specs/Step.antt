@@ -29,7 +29,8 @@ births_in_step draft seed k mols next = births_of draft next (events_of draft se
 -- the molecules at the end of step k: those that didn't react, and the products that weren't absorbed
 abbrev pub mols_after : Draft → ℕ → ℕ → List Mol → ℕ → List Mol
 mols_after draft seed k mols next =
-    filter (remains draft seed k (reactions_of_two draft seed k mols)) mols ++ filter_map (born draft) (births_in_step draft seed k mols next)
+    filter (remains draft seed k (reactions_of_two draft seed k mols)) mols
+    ++ filter_map (born draft) (births_in_step draft seed k mols next)
 
 -- a state within the limit of molecules, or the count that passes it
 abbrev pub within_limit : ℕ → State → Result State ℕ

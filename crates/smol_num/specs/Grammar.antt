@@ -49,7 +49,8 @@ pub record Spells (numeral : Numeral) (word : List ℕ) : Type 0 where
   pub word_is : word ≡ sign ++ (mantissa ++ exponent)
   pub sign_is : SpellsSign numeral.negative sign
   pub mantissa_is : SpellsDigits numeral.whole numeral.fraction mantissa
-  pub exponent_is : SpellsNoExponent numeral.exponent_negative numeral.exponent exponent ⊎ SpellsExponent numeral.exponent_negative numeral.exponent exponent
+  pub exponent_is : SpellsNoExponent numeral.exponent_negative numeral.exponent exponent
+      ⊎ SpellsExponent numeral.exponent_negative numeral.exponent exponent
   pub some : 0 < length (numeral.whole ++ numeral.fraction)
   pub all_digits : list_all is_digit (numeral.whole ++ numeral.fraction) ≡ true
 

@@ -67,6 +67,7 @@ pub record Good (pairs : List Pair) (state : State) : Type 0 where
   -- a held pair is undecided, has counter 0, and is held by one worker alone
   pub held : (w j : ℕ) → state.holds w j ≡ true → IsHeldWell pairs state w j
   -- an undecided pair with counter 0 is held, or it has no link and its slice is not taken
-  pub waiting : (j : ℕ) → j < length pairs → state.decision j ≡ None → left_of pairs state j ≡ 0 → IsHeld state j ⊎ IsUntouched pairs state j
+  pub waiting : (j : ℕ) → j < length pairs → state.decision j ≡ None → left_of pairs state j ≡ 0
+      → IsHeld state j ⊎ IsUntouched pairs state j
   -- a pair without a link whose slice is not taken is undecided and not held
   pub untouched : (j : ℕ) → j < length pairs → IsUntouched pairs state j → IsIdle state j

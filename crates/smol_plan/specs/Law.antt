@@ -15,7 +15,8 @@ pub record FollowsSerial (pairs : List Pair) (state : State) : Type 0 where
   -- each molecule is in at most one fired pair
   pub once : (m i j : ℕ) → is_fired state i ≡ true → is_fired state j ≡ true → has_at pairs m i ≡ true → has_at pairs m j ≡ true → i ≡ j
   -- each refused pair shares a molecule with an earlier fired one
-  pub beaten : (j : ℕ) → state.decision j ≡ Some false → (i : ℕ) × (i < j) × (shares_molecule (pair_at pairs i) (pair_at pairs j) ≡ true) × (is_fired state i ≡ true)
+  pub beaten : (j : ℕ) → state.decision j ≡ Some false → (i : ℕ) × (i < j)
+      × (shares_molecule (pair_at pairs i) (pair_at pairs j) ≡ true) × (is_fired state i ≡ true)
 
 -- what is held or owed is so by a worker of this many
 pub record OfWorkers (workers : ℕ) (state : State) : Type 0 where

@@ -102,8 +102,10 @@ SoFar entries of other k j side v =
 
 -- the links hold what the first k entries say
 pub record LinkedUpTo (entries : List Entry) (links : List Links) (k : ℕ) : Type 0 where
-  pub earlier : (j : ℕ) (side : Side) → j < length links → SoFar entries (λ q. entry_at entries (q + 1)) (entry_at entries) k j side (earlier_of (links_at links j) side)
-  pub later : (j : ℕ) (side : Side) → j < length links → SoFar entries (entry_at entries) (λ q. entry_at entries (q + 1)) k j side (later_of (links_at links j) side)
+  pub earlier : (j : ℕ) (side : Side) → j < length links
+      → SoFar entries (λ q. entry_at entries (q + 1)) (entry_at entries) k j side (earlier_of (links_at links j) side)
+  pub later : (j : ℕ) (side : Side) → j < length links
+      → SoFar entries (entry_at entries) (λ q. entry_at entries (q + 1)) k j side (later_of (links_at links j) side)
 
 -- no pair has a neighbor
 abbrev pub AreUnlinked : List Links → Type 0

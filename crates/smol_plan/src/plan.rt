@@ -112,7 +112,8 @@ impl Plan {
         requires { pair < length self.now }
         ensures next { IfSome result (λ next. IsNextAfter self.now (molecule_at self.now pair side) pair next.0) }
         ensures on_side { IfSome result (λ next. molecule_at self.now next.0 next.1 ≡ molecule_at self.now pair side) }
-        ensures none { IfNone result ((k : ℕ) → pair < k → k < length self.now → has_at self.now (molecule_at self.now pair side) k ≡ false) }
+        ensures none { IfNone result ((k : ℕ) → pair < k → k < length self.now
+            → has_at self.now (molecule_at self.now pair side) k ≡ false) }
 
         // What comes before the pair found is this one, and what comes after the pair before this one is this one.
         ensures undone { IfSome result (λ next. source_of self.now next.0 next.1 ≡ Some pair) }

@@ -38,5 +38,6 @@ abbrev pub with_offset : Step3 → Product → Product
 with_offset offset product = record product { offset = offset }
 
 abbrev pub with_placement : ProductPlacement → Reaction → Reaction
-with_placement (placement.Offset product offset) reaction = record reaction { products = changed (with_offset offset) product reaction.products }
+with_placement (placement.Offset product offset) reaction =
+    record reaction { products = changed (with_offset offset) product reaction.products }
 with_placement (placement.Unbind distance) reaction = record reaction { placement = Unbind distance }

@@ -118,4 +118,5 @@ chance_sum species (reaction ∷ reactions) (chance ∷ chances) = chance_alone 
 -- one whole is enough for each of so many species
 abbrev pub are_shared : ℕ → List Reaction → List (Option ℕ) → Bool
 are_shared zero reactions chances = true
-are_shared (suc species) reactions chances = are_shared species reactions chances && nat_le (chance_sum species reactions chances) whole_chance
+are_shared (suc species) reactions chances = are_shared species reactions chances
+    && nat_le (chance_sum species reactions chances) whole_chance

@@ -100,8 +100,10 @@ placement_in kind.Unbindrad dims species products line =
     (with_value (distance_in (word_at line 3)) (λ distance.
     Ok (placement.Unbind distance)))
 
--- the number of a reaction and how its products are placed, by the axes in use, beside these species and reactions, and by the kinds of placement that the reactions were given
-unfoldable pub product_placement_in : Option ℕ → List (List ℕ) → List Reaction → List (Option PlacementKind) → Stated → Result (ℕ × ProductPlacement) Kind
+-- the number of a reaction and how its products are placed, by the axes in use, beside these species and reactions,
+-- and by the kinds of placement that the reactions were given
+unfoldable pub product_placement_in : Option ℕ → List (List ℕ) → List Reaction → List (Option PlacementKind) → Stated
+    → Result (ℕ × ProductPlacement) Kind
 product_placement_in given species reactions kinds line =
     with_value (there given BadOrder) (λ dims.
     passing (unless (nat_le 3 (length (words_of line))) WrongWordCount ∷ [])

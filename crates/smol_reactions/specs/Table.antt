@@ -27,6 +27,7 @@ pub record IsKept (table : Reactions) : Type 0 where
 
 -- how the reading of a line ends: it is taken and the table holds what it says too, or its fault is told, or memory ran out
 abbrev pub Reads : {T : Type 0} → (List ReactionSaid → Result ReactionSaid Kind) → Reactions → Reactions → Result T Refusal → Type 0
-Reads rule old new (Ok done) = (said : List ReactionSaid) → Holds old said → (more : ReactionSaid) × (rule said ≡ Ok more) × Holds new (more ∷ said)
+Reads rule old new (Ok done) = (said : List ReactionSaid) → Holds old said → (more : ReactionSaid)
+    × (rule said ≡ Ok more) × Holds new (more ∷ said)
 Reads rule old new (Err (At kind)) = (said : List ReactionSaid) → Holds old said → rule said ≡ Err kind
 Reads rule old new (Err OutOfMemory) = Unit {0}

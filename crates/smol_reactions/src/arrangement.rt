@@ -113,7 +113,8 @@ fn check_left(line: &StatedLine<'_>, side: Side) -> Result<(), Kind>
     requires ordered { side.start ≤ side.end }
     requires within { side.end ≤ length (words_of line.now) }
     ensures { MatchResult result
-        (λ _. left_in (slice_range (words_of line.now) side.start side.end) ≡ Ok (summands (slice_range (words_of line.now) side.start side.end)))
+        (λ _. left_in (slice_range (words_of line.now) side.start side.end)
+        ≡ Ok (summands (slice_range (words_of line.now) side.start side.end)))
         (λ kind. left_in (slice_range (words_of line.now) side.start side.end) ≡ Err kind) }
 {
     if is_nothing(line, side) {
@@ -131,7 +132,8 @@ fn right_in(line: &StatedLine<'_>, side: Side) -> Result<Side, Kind>
     requires ordered { side.start ≤ side.end }
     requires within { side.end ≤ length (words_of line.now) }
     ensures rule { MatchResult result
-        (λ right. right_in (slice_range (words_of line.now) side.start side.end) ≡ Ok (summands (slice_range (words_of line.now) right.start right.end)))
+        (λ right. right_in (slice_range (words_of line.now) side.start side.end)
+        ≡ Ok (summands (slice_range (words_of line.now) right.start right.end)))
         (λ kind. right_in (slice_range (words_of line.now) side.start side.end) ≡ Err kind) }
     ensures ordered { IfOk result (λ right. right.start ≤ right.end) }
     ensures within { IfOk result (λ right. right.end ≤ length (words_of line.now)) }
@@ -154,7 +156,9 @@ fn right_in(line: &StatedLine<'_>, side: Side) -> Result<Side, Kind>
 #[tactic(auto, using(crate::proofs::Sides::arrow_at))]
 fn arrow_of(line: &StatedLine<'_>) -> Option<usize>
     requires { 2 ≤ length (words_of line.now) }
-    ensures found { MatchOption result (position is_arrow (arranged_words line.now) ≡ None) (λ arrow. position is_arrow (arranged_words line.now) ≡ Some (arrow - 2)) }
+    ensures found { MatchOption result
+        (position is_arrow (arranged_words line.now) ≡ None)
+        (λ arrow. position is_arrow (arranged_words line.now) ≡ Some (arrow - 2)) }
     ensures behind { IfSome result (λ arrow. 2 ≤ arrow) }
     ensures within { IfSome result (λ arrow. arrow < length (words_of line.now)) }
 {

@@ -19,11 +19,13 @@ pub fn probabilities_share_the_words()
 /// What lines without a fault say of reactions is sound: a line more keeps it so.
 pub fn lines_keep_reactions_sound()
     ensures reaction { (dims : Option ℕ) (species : List (List ℕ)) (said : List ReactionSaid) (line : Stated) (more : ReactionSaid)
-        → reaction_said species said line ≡ Ok more → AreReactions dims (length species) said → AreReactions dims (length species) (more ∷ said) }
+        → reaction_said species said line ≡ Ok more → AreReactions dims (length species) said
+        → AreReactions dims (length species) (more ∷ said) }
     ensures binding_radius { (dims : Option ℕ) (count : ℕ) (said : List ReactionSaid) (line : Stated) (more : ReactionSaid)
         → binding_radius_said said line ≡ Ok more → AreReactions dims count said → AreReactions dims count (more ∷ said) }
     ensures reaction_probability { (dims : Option ℕ) (count : ℕ) (said : List ReactionSaid) (line : Stated) (more : ReactionSaid)
         → reaction_probability_said said line ≡ Ok more → AreReactions dims count said → AreReactions dims count (more ∷ said) }
-    ensures product_placement { (dims : Option ℕ) (count : ℕ) (species : List (List ℕ)) (said : List ReactionSaid) (line : Stated) (more : ReactionSaid)
+    ensures product_placement { (dims : Option ℕ) (count : ℕ) (species : List (List ℕ)) (said : List ReactionSaid)
+        (line : Stated) (more : ReactionSaid)
         → product_placement_said dims species said line ≡ Ok more → AreReactions dims count said → AreReactions dims count (more ∷ said) }
 {}

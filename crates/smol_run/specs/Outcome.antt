@@ -60,7 +60,8 @@ outcome_of_ending names pieces (Over step) = record { status = status.Over; name
 -- a run that begins, and one that doesn't since a molecule finds no place: its output files are opened all the same
 abbrev pub outcome_of_run : List (List ℕ) → Result Stretch NoPlace → Outcome
 outcome_of_run names (Ok stretch) = outcome_of_ending names stretch.pieces stretch.ending
-outcome_of_run names (Err none) = record { status = status.Refused; names = names; pieces = error_line (no_place_line none.line none.serial) }
+outcome_of_run names (Err none) =
+    record { status = status.Refused; names = names; pieces = error_line (no_place_line none.line none.serial) }
 
 -- the seed of a run: that of the words, else that of the configuration, else 0
 abbrev pub seed_of : Option ℕ → Draft → ℕ

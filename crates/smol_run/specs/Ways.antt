@@ -29,7 +29,8 @@ pub record GoesSafely (draft : Draft) (seed : ℕ) (run : Stretch) : Type 0 wher
 -- the run of this text, where it is accepted and begins, goes safely
 abbrev pub TextGoesSafely : Option ℕ → List ℕ → Type 0
 TextGoesSafely seed text =
-    (draft : Draft) (run : Stretch) → config_of text ≡ Ok draft → run_of draft (seed_of seed draft) ≡ Ok run → GoesSafely draft (seed_of seed draft) run
+    (draft : Draft) (run : Stretch) → config_of text ≡ Ok draft → run_of draft (seed_of seed draft) ≡ Ok run
+    → GoesSafely draft (seed_of seed draft) run
 
 abbrev pub FileGoesSafely : Option ℕ → Option (List ℕ) → Type 0
 FileGoesSafely seed None = Unit {0}

@@ -84,7 +84,8 @@ job_by index seed given = File index seed (unwrap_or given 1)
 -- exactly one name, at most one seed and at most one number of workers ask for a run of that file
 abbrev pub file_job : List ℕ → List ℕ → List ℕ → Option Job
 file_job names seeds worker_counts =
-    option_and_then (λ index. option_and_then (λ seed. option_map (job_by index seed) (optional_entry worker_counts)) (optional_entry seeds))
+    option_and_then (λ index. option_and_then (λ seed. option_map (job_by index seed) (optional_entry worker_counts))
+    (optional_entry seeds))
     (only_entry names)
 
 -- words that spell items ask for what the items ask for. Every other list of words is refused
@@ -127,7 +128,8 @@ pub record StandsAt (item : Item) (index : ℕ) (words : List (List ℕ)) : Type
   pub fits : index + item_len item ≤ length words
   pub within : NamesWithin (length words) item
   pub workers : WorkersWithin item
-  pub first : items_of index (drop index words) ≡ joined_items (Some item) (items_of (index + item_len item) (drop (index + item_len item) words))
+  pub first : items_of index (drop index words)
+      ≡ joined_items (Some item) (items_of (index + item_len item) (drop (index + item_len item) words))
 
 -- the item was found, as the first of its kind
 abbrev pub Finds : Item → Found → Found → Type 0

@@ -29,7 +29,8 @@ pub fn run_config<R: Threads + Sync, K: Outlets, G: Gate + Sync>(
     requires opened { K.opened outlets.old ≡ 0 }
     requires least { 1 ≤ workers }
     requires most { workers ≤ 16 }
-    ensures ended { Tells (K.told outlets.old) (K.told outlets.new) (GoesWith (outcome_of_run config.now.outputs (run_of config.now seed)) result) }
+    ensures ended { Tells (K.told outlets.old) (K.told outlets.new)
+        (GoesWith (outcome_of_run config.now.outputs (run_of config.now seed)) result) }
     ensures status { IfOk result IsRun }
     ensures faults { CountsLoss result (K.faults outlets.old) (K.faults outlets.new) }
 {

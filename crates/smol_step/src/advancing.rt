@@ -132,7 +132,8 @@ pub fn advance<R: Threads + Sync, G: Gate + Sync>(
     ensures serials { IfOk result (λ after. after.next ≤ state.next + 16000000) }
     ensures no_way_crosses { All (CrossesNoFace config.now) (moves_of config.now seed state) }
     ensures ways_are_confined { All (StaysInBoxes config.now) (moves_of config.now seed state) }
-    ensures boxes_hold { IfOk result (λ after. (box : Cuboid) (serial : ℕ) → IsClosedBox config.now box → IsIn box serial state → IsInOrGone box serial after) }
+    ensures boxes_hold { IfOk result (λ after. (box : Cuboid) (serial : ℕ) → IsClosedBox config.now box
+        → IsIn box serial state → IsInOrGone box serial after) }
     ensures products_stay { (box : Cuboid) → IsClosedBox config.now box → LoneProductsAreConfined config.now seed state box }
     ensures pairs_stay { (box : Cuboid) → IsClosedBox config.now box → PairsAreConfined config.now seed state box }
 {

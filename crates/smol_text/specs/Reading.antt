@@ -17,7 +17,8 @@ pub record Stated : Type 0 where
 abbrev pub words_of : Stated → List (List ℕ)
 words_of line = words_in line.part
 
--- why a text isn't split into lines: a byte that isn't allowed in the line of this number, a block comment that the line of this number opened and none closed, or a line more than there may be
+-- why a text isn't split into lines: a byte that isn't allowed in the line of this number, a block comment that the
+-- line of this number opened and none closed, or a line more than there may be
 pub data LinesFault : Type 0 where
   bad_byte : ℕ → LinesFault
   open_comment : ℕ → LinesFault

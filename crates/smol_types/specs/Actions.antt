@@ -36,7 +36,8 @@ action_written (Some surface) face species = written_action surface face species
 
 -- what a face of a panel does to a species
 abbrev pub panel_action : List Surface → Panel → Face → ℕ → Action
-panel_action surfaces panel face species = carried_out (action_written (slice_get surfaces panel.surface) face species) (destination_of panel face)
+panel_action surfaces panel face species =
+    carried_out (action_written (slice_get surfaces panel.surface) face species) (destination_of panel face)
 
 -- what a face of a wall does to every species: the face turned inwards acts by the wall's letter, the other one lets through
 abbrev pub wall_action : Letter → Face → Action

@@ -41,7 +41,8 @@ IsAct species_count compartment_count output_count walls (act.Count out) = IsOut
 IsAct species_count compartment_count output_count walls (act.CountIn compartment out) =
     (compartment < compartment_count) × IsOutlet output_count out
 IsAct species_count compartment_count output_count walls (act.List out) = IsOutlet output_count out
-IsAct species_count compartment_count output_count walls (act.Positions who out) = AreSpecies 0 species_count who × IsOutlet output_count out
+IsAct species_count compartment_count output_count walls (act.Positions who out) =
+    AreSpecies 0 species_count who × IsOutlet output_count out
 IsAct species_count compartment_count output_count walls (act.Echo out text) = IsOutlet output_count out
 IsAct species_count compartment_count output_count walls (act.Kill who) = AreSpecies 0 species_count who
 IsAct species_count compartment_count output_count walls (act.KillProb who p) = AreSpecies 0 species_count who × (p.0 ≤ certain)
