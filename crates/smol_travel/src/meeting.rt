@@ -1,7 +1,7 @@
 //! When panels and walls are met.
-ghost use Rattle.std.specs.Prelude.{◌≡◌, ◌↔◌, ◌<◌, ◌≤◌, ◌^◌, All, IfSome, IsTrue, true, unsigned_abs};
+ghost use Rattle.std.specs.Prelude.{◌≡◌, ◌↔◌, ◌<◌, ◌≤◌, ◌^◌, All, IfSome, IsTrue, pos, true, unsigned_abs};
 ghost use Rattle.smol_geom.specs.declared.moment.Moment.{Moment};
-ghost use Rattle.smol_geom.specs.Axes.{IsEven, IsWithin};
+ghost use Rattle.smol_geom.specs.Axes.{EachAxis, IsEven, IsWithin, on_axis};
 ghost use Rattle.smol_geom.specs.Moments.{IsMoment, is_before};
 ghost use Rattle.smol_types.specs.declared.wall.Wall.{Wall};
 ghost use Rattle.smol_meaning.specs.Folds.{IsPanelRect, IsWallPlane, IsSmallFold};
@@ -26,10 +26,21 @@ pub fn next_meeting(
     requires fold { IsSmallFold fold.now }
     ensures { IsNext (sheets_of panels.now) from.now by.now fold.now last.now result }
 {
+    // A molecule that stands still meets nothing, however many panels and walls there are.
+    if is_still(by) {
+        return None;
+    }
     let config = panels.config();
     let rect = next_of_rects(panels.rects(), from, by, fold, last);
     let wall = next_of_walls(config.walls(), from, by, fold, last);
     earliest(rect, wall)
+}
+
+// Whether the displacement is 0 on every axis. Such a move has no moments: no coordinate changes.
+fn is_still(by: &Step3) -> bool
+    ensures { IsTrue result ↔ EachAxis (λ axis. on_axis by.now.0 axis ≡ pos 0) }
+{
+    by.0[0] == 0 && by.0[1] == 0 && by.0[2] == 0
 }
 
 // The first moment after the last one at which one of the rectangles is met.
