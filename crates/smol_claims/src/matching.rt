@@ -1,5 +1,5 @@
 //! Matching by workers in threads of their own.
-ghost use Rattle.std.specs.Prelude.{◌≡◌, ◌<◌, ◌≤◌, length, All, IfOk, sum_by, [], ℕ, slice_index_or};
+ghost use Rattle.std.specs.Prelude.{◌≡◌, ◌<◌, ◌≤◌, length, All, IfOk, sum_by};
 ghost use Rattle.smol_plan.specs.Pair.{IsOrdered};
 ghost use Rattle.smol_plan.specs.Matching.{serial};
 ghost use Rattle.smol_plan.specs.Machine.{slice_count};

@@ -1,7 +1,7 @@
 //! How a matching is opened.
-ghost use Rattle.std.specs.Prelude.{◌≡◌, ◌+◌, ◌<◌, ◌≤◌, [], length, All, IfOk, vec_capacity};
+ghost use Rattle.std.specs.Prelude.{◌≡◌, ◌<◌, ◌≤◌, [], length, All, IfOk};
 ghost use Rattle.smol_claims.specs.View.{newcomer, view_splitting, view_of_new};
-ghost use Rattle.smol_claims.specs.Hand.{SitsAt, IsNewFor};
+ghost use Rattle.smol_claims.specs.Hand.{IsNewFor};
 
 use crate::claims::Claims;
 use crate::fresh::fresh_words;

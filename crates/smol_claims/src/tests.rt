@@ -1,4 +1,4 @@
-ghost use Rattle.std.specs.Prelude.{◌≡◌, ◌+◌, ◌*◌, ◌<◌, ◌≤◌, ℕ, All, length, IfOk};
+ghost use Rattle.std.specs.Prelude.{◌≡◌, ◌+◌, ◌*◌, ◌<◌, ◌≤◌, All, length, IfOk};
 ghost use Rattle.smol_plan.specs.Pair.{IsOrdered};
 ghost use Rattle.smol_claims.specs.Hand.{WorksFor, IsNewFor, HasRun};
 

@@ -1,7 +1,6 @@
 //! Which of the molecules that a command means it hits by chance.
-ghost use Rattle.std.specs.Prelude.{◌≡◌, ◌≤◌, if◌then◌else◌, length, not, vec_len};
+ghost use Rattle.std.specs.Prelude.{◌≡◌, ◌≤◌, if◌then◌else◌, not, vec_len};
 ghost use Rattle.smol_types.specs.Limits.{most_molecules, most_steps};
-ghost use Rattle.smol_types.specs.declared.state.Mol.{Mol as TheMol};
 ghost use Rattle.smol_meaning.specs.Commands.{filter_ranked, is_hit, map_ranked, turned_into};
 
 use crate::meant::is_meant;

@@ -1,5 +1,5 @@
 //! Which molecules a command means, and the tests before it.
-ghost use Rattle.std.specs.Prelude.{◌≡◌, ◌≤◌, count_by, length};
+ghost use Rattle.std.specs.Prelude.{◌≡◌};
 ghost use Rattle.std.specs.List.{list_all};
 ghost use Rattle.smol_meaning.specs.Commands.{holds_of, is_meant, number_meant};
 

@@ -1,5 +1,5 @@
 //! What commands print. Each puts one piece on the page of an outlet.
-ghost use Rattle.std.specs.Prelude.{◌≡◌, ◌≤◌, ◌<◌, ◌++◌, ◌^◌, [], ◌∷◌, All, OnOk, filter, flat_map, length, vec_len};
+ghost use Rattle.std.specs.Prelude.{◌≡◌, ◌≤◌, ◌<◌, ◌++◌, ◌^◌, [], ◌∷◌, All, OnOk, filter, flat_map, length};
 ghost use Rattle.smol_types.specs.Steps.{last_step};
 ghost use Rattle.smol_types.specs.declared.state.Mol.{Mol as TheMol};
 ghost use Rattle.smol_meaning.specs.Commands.{is_meant};

@@ -3,7 +3,7 @@ ghost use Rattle.smol_types.specs.Limits.{latest};
 ghost use Rattle.smol_types.specs.declared.command.When.TheVariants as «when»;
 ghost use Rattle.smol_types.specs.Commands.{IsWhen};
 ghost use Rattle.smol_types.specs.Steps.{last_step};
-ghost use Rattle.smol_meaning.specs.Timing.{is_after, is_at_mark, is_before, is_due, is_due_at, is_first_from, last_mark, time_of, were_earlier};
+ghost use Rattle.smol_meaning.specs.Timing.{is_at_mark, is_due, is_due_at, is_first_from, last_mark, time_of, were_earlier};
 ghost use Rattle.smol_commands.specs.Phase.{IsPhase};
 
 use smol_types::{Config, Phase, When};

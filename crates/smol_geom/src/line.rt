@@ -1,4 +1,4 @@
-ghost use Rattle.std.specs.Prelude.{◌≡◌, ◌↔◌, ◌^◌, ◌≤◌, ◌-ℤ◌, IsTrue};
+ghost use Rattle.std.specs.Prelude.{◌≡◌, ◌↔◌, ◌^◌, ◌-ℤ◌, IsTrue};
 ghost use Rattle.smol_geom.specs.Axes.{EachAxis, IsEven, IsOdd, IsWithin, on_axis};
 ghost use Rattle.smol_geom.specs.Line.{IsStrictlyBetween, LineMeets};
 ghost use Rattle.smol_geom.specs.Rect.{IsRect, plane_of};

@@ -1,16 +1,14 @@
 -- Parts of a run that are made one after the other.
-use Rattle.std.proofs.Common.{◌≡◌, ℕ, ◌≤◌, List, [], ◌∷◌, ◌++◌, append_assoc, refl, sym, ap, subst, ◌∙◌, Option, Result, Ok, Err}
-use Rattle.std.proofs.lemmas.List.{append-nil}
-use Rattle.smol_edge.specs.Faults.{Rose, Tells}
+use Rattle.std.proofs.Common.{◌≡◌, ℕ, List, [], ◌++◌, append_assoc, refl, sym, ap, subst, ◌∙◌, Option, Result, Ok, Err}
+use Rattle.smol_edge.specs.Faults.{Tells}
 use Rattle.smol_edge.specs.Outlets.{Appends, AppendsFrontOf, Piece, Written}
-use Rattle.smol_edge.proofs.Pieces.{Appends-then, Appends-nothing}
+use Rattle.smol_edge.proofs.Pieces.{Appends-then}
 use Rattle.smol_edge.proofs.PieceFronts.{AppendsFrontOf-after, AppendsFrontOf-longer}
-use Rattle.smol_edge.proofs.Telling.{Tells-then, Tells-weaker, Tells-same}
+use Rattle.smol_edge.proofs.Telling.{Tells-then, Tells-weaker}
 use Rattle.smol_types.specs.declared.state.State.{State}
 use Rattle.smol_meaning.specs.Stretch.{Ending, GoesOn, Stopped, Over, Stretch, followed_by, followed_if, joined}
 use Rattle.smol_commands.specs.declared.flow.Flow.{Flow}
 use Rattle.smol_commands.specs.declared.flow.Flow.TheVariants.{Go, Stop}
-use Rattle.smol_commands.specs.Performs.{ending_of}
 use Rattle.smol_loop.specs.declared.run_fault.RunFault.{RunFault}
 use Rattle.smol_loop.specs.declared.run_fault.RunFault.TheVariants as fault
 use Rattle.smol_loop.specs.Parts.{CountsFault, EndsPart, GivesPart}

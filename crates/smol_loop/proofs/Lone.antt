@@ -1,10 +1,10 @@
 -- What one command printed, as it is written: its piece stands alone on the pages.
-use Rattle.std.proofs.Common.{◌≡◌, ◌<◌, ◌≤◌, ℕ, zero, suc, ◌+◌, ◌-◌, ◌==◌, ◌≢◌, if◌then◌else◌, Bool, true, false, List, [], ◌∷◌, ◌++◌, length, get_or, take, replicate, arith, refl, sym, ap, subst, ◌∙◌, Option, inl, inr, ◌⊎◌}
+use Rattle.std.proofs.Common.{◌≡◌, ◌<◌, ◌≤◌, ℕ, zero, suc, ◌+◌, ◌-◌, ◌==◌, ◌≢◌, if◌then◌else◌, Bool, true, false, List, [], ◌∷◌, ◌++◌, length, get_or, take, replicate, arith, refl, sym, ap, subst, ◌∙◌, Option, inl, inr}
 use Rattle.std.proofs.lemmas.Bool.{cases_lt}
 use Rattle.std.proofs.lemmas.Bool.Decides.{nat_tests}
 use Rattle.std.proofs.lemmas.List.{append-nil, length-replicate, get_or-replicate}
 use Rattle.smol_edge.specs.Faults.{Tells}
-use Rattle.smol_edge.specs.Outlets.{Appends, AppendsFrontOf, Piece, Written, bytes_on, front_of}
+use Rattle.smol_edge.specs.Outlets.{Appends, AppendsFrontOf, Piece, Written, bytes_on}
 use Rattle.smol_edge.proofs.PieceFronts.{Appends-same, AppendsFrontOf-bytes, AppendsFrontOf-nothing}
 use Rattle.smol_edge.proofs.Pieces.{Appends-nothing}
 use Rattle.smol_edge.proofs.Telling.{Tells-same, Tells-weaker}

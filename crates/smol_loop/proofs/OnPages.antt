@@ -1,10 +1,10 @@
 -- Pages with their outlets.
-use Rattle.std.proofs.Common.{◌≡◌, ◌<◌, ℕ, ◌+◌, List, [], ◌∷◌, ◌++◌, length, take, drop, arith, sym, subst, ap, ◌∙◌, Option, Some}
+use Rattle.std.proofs.Common.{◌≡◌, ℕ, ◌+◌, List, [], ◌∷◌, ◌++◌, length, take, drop, arith, sym, subst, ap, ◌∙◌, Option, Some}
 use Rattle.std.specs.Prelude.{slice_get}
 use Rattle.std.proofs.lemmas.List.{take_more, length-take-le, take-append-drop}
 use Rattle.std.proofs.lemmas.Option.{get_or_from_slice_get, slice_get_within}
 use Rattle.smol_edge.specs.Faults.{Tells}
-use Rattle.smol_edge.specs.Outlets.{Appends, AppendsFrontOf, Piece, Written}
+use Rattle.smol_edge.specs.Outlets.{Appends, AppendsFrontOf, Written}
 use Rattle.smol_edge.proofs.Pieces.{Appends-then}
 use Rattle.smol_edge.proofs.PieceFronts.{AppendsFrontOf-after, AppendsFrontOf-longer}
 use Rattle.smol_edge.proofs.Telling.{Tells-then}

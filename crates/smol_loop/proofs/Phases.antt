@@ -1,5 +1,5 @@
 -- The commands of a phase, one after the other.
-use Rattle.std.proofs.Common.{◌≡◌, ℕ, zero, suc, ◌+◌, ◌*◌, ◌≤◌, ◌<◌, Bool, true, false, if◌then◌else◌, List, [], ◌∷◌, ◌++◌, length, get_or, drop, arith, refl, sym, ap, subst, ◌∙◌, Option, None, Some, Result, Ok, Err}
+use Rattle.std.proofs.Common.{◌≡◌, ℕ, zero, suc, ◌+◌, ◌*◌, ◌≤◌, ◌<◌, Bool, true, false, if◌then◌else◌, List, [], ◌∷◌, ◌++◌, length, get_or, drop, arith, refl, sym, ap, subst, ◌∙◌, Option, None, Some, Ok}
 use Rattle.std.specs.Prelude.{slice_get}
 use Rattle.std.specs.Option.{option_map_or}
 use Rattle.std.proofs.lemmas.List.{append-nil, drop_all, drop_more}
@@ -18,15 +18,14 @@ use Rattle.smol_types.specs.Sound.{IsSound}
 use Rattle.smol_types.specs.State.{Fits}
 use Rattle.smol_meaning.specs.Commands.{performed}
 use Rattle.smol_meaning.specs.Run.{commands_from}
-use Rattle.smol_meaning.specs.Stretch.{GoesOn, Stretch, followed_by, idle}
+use Rattle.smol_meaning.specs.Stretch.{Stretch, followed_by, idle}
 use Rattle.smol_meaning.specs.Timing.{is_due}
 use Rattle.smol_meaning.proofs.Performing.{KeepsStep, nothing_kept, performed_kept}
 use Rattle.smol_commands.specs.declared.flow.Flow.{Flow}
-use Rattle.smol_commands.specs.declared.flow.Flow.TheVariants.{Go, Stop}
+use Rattle.smol_commands.specs.declared.flow.Flow.TheVariants.{Go}
 use Rattle.smol_commands.specs.Performs.{performed_at}
-use Rattle.smol_loop.specs.declared.run_fault.RunFault.{RunFault}
 use Rattle.smol_loop.specs.Due.{due_at, performed_if_due}
-use Rattle.smol_loop.specs.Parts.{EndsPart, GivesPart}
+use Rattle.smol_loop.specs.Parts.{EndsPart}
 use Rattle.smol_loop.proofs.Joining.{Behind, goes_on}
 
 -- what the command of a number does, by whether it is due

@@ -1,5 +1,5 @@
 -- The steps of a run, one after the other.
-use Rattle.std.proofs.Common.{◌≡◌, ℕ, zero, suc, ◌+◌, ◌*◌, ◌-◌, ◌≤◌, ◌<◌, List, [], ◌∷◌, ◌++◌, arith, refl, sym, ap, subst, ◌∙◌, Option, Result, Ok, Err, OnOk}
+use Rattle.std.proofs.Common.{◌≡◌, ℕ, suc, ◌+◌, ◌*◌, ◌-◌, ◌≤◌, ◌<◌, List, [], ◌++◌, arith, refl, ap, subst, ◌∙◌, Option, Result, Ok, Err, OnOk}
 use Rattle.smol_edge.specs.Faults.{Tells}
 use Rattle.smol_edge.specs.Outlets.{Appends, Piece, Written}
 use Rattle.smol_edge.proofs.Pieces.{Appends-nothing, Appends-then}

@@ -1,24 +1,18 @@
 -- A whole run.
-use Rattle.std.proofs.Common.{◌≡◌, ℕ, List, [], ◌∷◌, refl, sym, ap, subst, ◌∙◌, Option, Result, Ok, Err}
-use Rattle.std.specs.Prelude.{IsOkAnd}
-use Rattle.smol_edge.specs.Faults.{Rose, Tells}
-use Rattle.smol_edge.specs.Outlets.{Appends, Written}
+use Rattle.std.proofs.Common.{◌≡◌, ℕ, List, [], refl, sym, ap, Result, Ok, Err}
 use Rattle.smol_types.specs.declared.command.Phase.TheVariants as phase
 use Rattle.smol_types.specs.declared.draft.Draft.{Draft}
 use Rattle.smol_types.specs.declared.state.Mol.{Mol}
 use Rattle.smol_types.specs.declared.state.State.{State}
 use Rattle.smol_meaning.specs.Placement.{NoPlace, opened, opened_with, opening_state, placed_from}
-use Rattle.smol_meaning.specs.Run.{course, phase_of, run_from, run_of, steps_from, steps_of}
-use Rattle.smol_meaning.specs.Stretch.{Ending, GoesOn, Over, Stretch, followed_by, resumed, resumed_from}
+use Rattle.smol_meaning.specs.Run.{course, phase_of, steps_from, steps_of}
+use Rattle.smol_meaning.specs.Stretch.{Stretch, followed_by, resumed, resumed_from}
 use Rattle.smol_commands.specs.declared.flow.Flow.{Flow}
 use Rattle.smol_commands.specs.declared.flow.Flow.TheVariants.{Go, Stop}
-use Rattle.smol_commands.specs.Performs.{ending_of}
 use Rattle.smol_loop.specs.declared.run_fault.RunFault.{RunFault}
 use Rattle.smol_loop.specs.declared.run_fault.RunFault.TheVariants as fault
-use Rattle.smol_loop.specs.Parts.{CountsFault, EndsPart, GivesPart}
-use Rattle.smol_loop.specs.Simulation.{EndsAs, IsComplete, Prints, pieces_of}
+use Rattle.smol_loop.specs.Parts.{EndsPart}
 use Rattle.smol_loop.proofs.Joining.{Behind}
-use Rattle.smol_loop.proofs.Lone.{front_nothing, nothing_written}
 
 -- the commands before the first step, and the steps
 abbrev pub up_to_end : Draft → ℕ → State → Stretch

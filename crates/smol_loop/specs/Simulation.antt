@@ -1,5 +1,5 @@
 -- How a simulation ends, and what outlets are given in it, by the run of its configuration.
-use Rattle.std.specs.Prelude.{◌≡◌, ℕ, List, [], Result, Ok, Err, IsOkAnd}
+use Rattle.std.specs.Prelude.{◌≡◌, List, [], Result, Ok, Err, IsOkAnd}
 use Rattle.smol_edge.specs.Outlets.{Piece, Written, Appends, AppendsFrontOf}
 use Rattle.smol_meaning.specs.Placement.{NoPlace}
 use Rattle.smol_meaning.specs.Stretch.{Ending, GoesOn, Stopped, Over, Stretch}

@@ -1,7 +1,7 @@
 -- What is inside a closed reflecting box stays inside.
-use Rattle.std.proofs.Common.{⊎_elim, ◌≡◌, ◌≢◌, ℕ, zero, suc, ◌+◌, ◌*◌, ◌/◌, ◌%◌, ◌<◌, ◌≤◌, Bool, true, false, ◌==◌, ◌⊎◌, inl, inr, List, [], ◌∷◌, length, cond, refl, sym, ◌∙◌, ap, subst, arith, ℤ, pos, negsuc, neg_ℤ, ◌+ℤ◌, ◌-ℤ◌, ◌*ℤ◌, ◌≤ℤ◌, ◌<ℤ◌, int_lt, unsigned_abs, get_or-set_same, get_or-set_other, length-set}
+use Rattle.std.proofs.Common.{⊎_elim, ◌≡◌, ℕ, zero, suc, ◌+◌, ◌*◌, ◌%◌, ◌<◌, ◌≤◌, Bool, true, false, ◌==◌, ◌⊎◌, inl, inr, List, [], ◌∷◌, length, cond, refl, sym, ◌∙◌, ap, subst, arith, ℤ, pos, neg_ℤ, ◌+ℤ◌, ◌-ℤ◌, ◌*ℤ◌, ◌≤ℤ◌, ◌<ℤ◌, int_lt, unsigned_abs, get_or-set_same, get_or-set_other, length-set}
 use Rattle.std.specs.Prelude.{All}
-use Rattle.std.proofs.lemmas.Bool.{cases_Bool, cases_eq, cases_lt, cond_both, and_from, and_parts, eq-eqb, eqb-true, ne_eqb}
+use Rattle.std.proofs.lemmas.Bool.{cases_eq, cases_lt, cond_both, and_from, and_parts, eq-eqb, ne_eqb}
 use Rattle.std.proofs.lemmas.Int.{ints}
 use Rattle.std.proofs.Math.Nat.{mul-le-mul_left, mul-le-mul_right}
 use Rattle.smol_geom.specs.declared.place.Place.{Place}
@@ -13,34 +13,29 @@ use Rattle.smol_geom.specs.declared.rect.Rect.{Rect}
 use Rattle.smol_geom.specs.Axes.{on_axis, IsOdd, IsEven}
 use Rattle.smol_geom.specs.Fraction.{Fraction, whole, ◌≤ℚ◌}
 use Rattle.smol_geom.specs.Fold.{IsSign, true_point}
-use Rattle.smol_geom.specs.Line.{part_way}
 use Rattle.smol_geom.specs.Moment.{part_of}
-use Rattle.smol_geom.specs.Moments.{Has, IsMoment, ticks, moment_of, moments}
+use Rattle.smol_geom.specs.Moments.{IsMoment, ticks, moment_of, moments}
 use Rattle.smol_geom.specs.Part.{scaled_way}
-use Rattle.smol_geom.specs.Rect.{HoldsPoint, IsInRange, IsRect}
-use Rattle.smol_geom.proofs.Cells.{centre, ahead, IsCell, IsDouble, even_double, odd_half, direction, in_cell, cell_through, centre_turned, signed_size, plane_folded, mirrored_start, mirrored_way, end_centre}
+use Rattle.smol_geom.specs.Rect.{IsInRange}
+use Rattle.smol_geom.proofs.Cells.{centre, ahead, IsCell, IsDouble, even_double, odd_half, in_cell, cell_through, centre_turned, signed_size, plane_folded, mirrored_start, mirrored_way, end_centre}
 use Rattle.smol_geom.proofs.Counts.{Left, more, all_left, rest_left, at_odd, head_num, not_ahead, not_behind, m_is}
 use Rattle.smol_geom.proofs.EachAxis.{at_axis}
 use Rattle.smol_geom.proofs.Folds.{folded_point}
 use Rattle.smol_geom.proofs.Integers.{sums, mul_le_ℤ, cancel_mul_ℤ}
 use Rattle.smol_geom.proofs.Lists.{has_contained, contains_had, all_had}
 use Rattle.smol_geom.proofs.Ways.{above_low, below_high, same_range}
-use Rattle.smol_types.specs.declared.draft.Draft.{Draft}
-use Rattle.smol_types.specs.Sound.{IsSound}
 use Rattle.smol_meaning.specs.declared.way.Response.{Response}
 use Rattle.smol_meaning.specs.declared.way.Response.TheVariants.{Reflect, Absorb, Jump, Pass}
 use Rattle.smol_meaning.specs.declared.way.Standing.{Standing}
 use Rattle.smol_meaning.specs.declared.way.Standing.TheVariants.{Goes, Gone}
 use Rattle.smol_meaning.specs.Box.{IsInside, IsInRegion, Covers, IsFaceShut, StaysPut, IsClosed, LiesFrom, StaysInRegion, EndsInside, Confines}
-use Rattle.smol_meaning.specs.Folds.{IsPlate, IsSheet}
+use Rattle.smol_meaning.specs.Folds.{IsPlate}
 use Rattle.smol_meaning.specs.Moves.{IsMove}
-use Rattle.smol_meaning.specs.Plates.{Sheet, Rectangle, Plane, Plate, is_met, is_on, is_in_rect, goes_up, response_of, responses_met, precedence, deciding, done_by, plane_at, mirrored, sheet_axis, sheet_plane, IsOn}
-use Rattle.smol_meaning.specs.Seen.{plates_of}
+use Rattle.smol_meaning.specs.Plates.{Sheet, Rectangle, Plane, Plate, is_met, is_on, goes_up, response_of, responses_met, precedence, deciding, done_by, plane_at, mirrored, sheet_axis, sheet_plane}
 use Rattle.smol_meaning.specs.Way.{after_moment, after_moments, end_on, ended, straight, way_among}
 use Rattle.smol_meaning.proofs.Bounds.{used, flat_sheet, plane_small}
 use Rattle.smol_meaning.proofs.Planes.{IsFlat, start_on, way_on, point_is, plane_met, between_plane}
 use Rattle.smol_meaning.proofs.Responses.{reflect_decides, deciding_put, on_is, holds_from}
-use Rattle.smol_meaning.proofs.Seeing.{plates_fit}
 
 -- after the counted ticks the molecule is in a cell within the box, on each axis
 pub record Inside (box : Cuboid) (from : Place) (by : Step3) (f : Fold) (c : ℕ → ℕ) : Type 0 where

@@ -1,5 +1,5 @@
 -- The states of a run fit its configuration, and its ways are defined.
-use Rattle.std.proofs.Common.{◌≡◌, ℕ, zero, suc, ◌+◌, ◌*◌, ◌-◌, ◌≤◌, ◌<◌, Bool, true, false, if◌then◌else◌, List, [], ◌∷◌, ◌++◌, length, get_or, All, Result, Ok, Err, refl, sym, ap, subst, ◌∙◌, arith}
+use Rattle.std.proofs.Common.{◌≡◌, ℕ, zero, suc, ◌+◌, ◌*◌, ◌-◌, ◌≤◌, Bool, true, false, if◌then◌else◌, List, [], ◌∷◌, length, get_or, All, Result, Ok, Err, refl, sym, ap, subst, arith}
 use Rattle.std.specs.Prelude.{nat_lt}
 use Rattle.std.specs.List.{list_all}
 use Rattle.std.proofs.lemmas.List.Elements.{All-nil, All-cons, All-head, All-tail, All-append}
@@ -25,7 +25,7 @@ use Rattle.smol_meaning.specs.Placement.{NoPlace, opened, opened_with, opening_s
 use Rattle.smol_meaning.specs.Run.{commands_from, course, phase_of, run_from, run_of, step_of, stepped, steps_from}
 use Rattle.smol_meaning.specs.Seen.{plates_of}
 use Rattle.smol_meaning.specs.Step.{moves_of, next_state}
-use Rattle.smol_meaning.specs.Stretch.{Ending, GoesOn, Stopped, Over, Stretch, becomes, followed_by, followed_if, idle, is_over, joined, resumed}
+use Rattle.smol_meaning.specs.Stretch.{Ending, GoesOn, Stopped, Over, Stretch, becomes, followed_by, followed_if, idle, is_over, resumed}
 use Rattle.smol_meaning.specs.Timing.{is_due}
 use Rattle.smol_meaning.proofs.Confined.{confined}
 use Rattle.smol_meaning.proofs.Seeing.{plates_fit}

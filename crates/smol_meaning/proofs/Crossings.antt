@@ -1,7 +1,6 @@
 -- No way crosses a face that reflects.
-use Rattle.std.proofs.Common.{⊎_elim, ◌≡◌, ◌≢◌, ℕ, zero, suc, ◌+◌, ◌*◌, ◌<◌, ◌≤◌, Bool, true, false, ◌⊎◌, inl, inr, List, [], ◌∷◌, length, cond, refl, sym, ◌∙◌, ap, subst, arith, ℤ, pos, negsuc, neg_ℤ, ◌+ℤ◌, ◌-ℤ◌, ◌*ℤ◌, int_lt, unsigned_abs, get_or-set_same, get_or-set_other, length-set}
-use Rattle.std.proofs.lemmas.Bool.{cases_Bool, cases_eq, cond_both, lt-ltb, both_ways}
-use Rattle.std.proofs.lemmas.Int.{ints}
+use Rattle.std.proofs.Common.{⊎_elim, ◌≡◌, ℕ, zero, suc, ◌+◌, ◌*◌, ◌<◌, Bool, ◌⊎◌, inl, inr, List, [], ◌∷◌, length, refl, sym, ◌∙◌, ap, subst, arith, ℤ, pos, negsuc, neg_ℤ, ◌+ℤ◌, ◌*ℤ◌, int_lt, unsigned_abs, get_or-set_same, get_or-set_other, length-set}
+use Rattle.std.proofs.lemmas.Bool.{cases_eq, cond_both, lt-ltb, both_ways}
 use Rattle.smol_geom.specs.declared.place.Place.{Place}
 use Rattle.smol_geom.specs.declared.place.Step3.{Step3}
 use Rattle.smol_geom.specs.declared.moment.Moment.{Moment}
@@ -13,8 +12,8 @@ use Rattle.smol_meaning.specs.declared.way.Response.TheVariants.{Reflect, Absorb
 use Rattle.smol_meaning.specs.declared.way.Standing.{Standing}
 use Rattle.smol_meaning.specs.declared.way.Standing.TheVariants.{Goes, Gone}
 use Rattle.smol_geom.specs.Moments.{Has, IsMoment}
-use Rattle.smol_geom.specs.Moments.{ticks, moments}
-use Rattle.smol_meaning.specs.Plates.{Plate, Sheet, Rectangle, Plane, goes_up, response_of, responses_met, deciding, done_by, plane_at, mirrored, shifted, jumped, are_same}
+use Rattle.smol_geom.specs.Moments.{moments}
+use Rattle.smol_meaning.specs.Plates.{Plate, goes_up, response_of, responses_met, deciding, done_by, plane_at, mirrored, shifted, are_same}
 use Rattle.smol_meaning.specs.Way.{after_moment, straight}
 use Rattle.std.specs.Prelude.{Contains}
 use Rattle.smol_geom.proofs.Lists.{has_contained}

@@ -1,7 +1,6 @@
 -- Where molecules stand after the motion of a step.
-use Rattle.std.proofs.Common.{◌≡◌, ℕ, zero, suc, ◌+◌, ◌*◌, ◌%◌, ◌^◌, ◌<◌, ◌≤◌, List, [], ◌∷◌, length, All, Option, Some, None, slice_get, ℤ, pos, refl, ap, sym, ◌∙◌, subst, arith, unsigned_abs}
+use Rattle.std.proofs.Common.{◌≡◌, ℕ, zero, suc, ◌+◌, ◌*◌, ◌^◌, ◌<◌, ◌≤◌, List, [], ◌∷◌, length, All, Option, ℤ, pos, refl, ap, arith, unsigned_abs}
 use Rattle.std.specs.Prelude.{IfSome}
-use Rattle.std.specs.List.{filter_map}
 use Rattle.std.specs.Option.{option_map_or}
 use Rattle.std.proofs.lemmas.List.Elements.{All-weaker}
 use Rattle.smol_geom.specs.declared.place.Place.{Place}
@@ -18,11 +17,11 @@ use Rattle.smol_types.specs.Sound.{IsSound}
 use Rattle.smol_types.specs.State.{Ascend, Fits, reach}
 use Rattle.smol_meaning.specs.declared.way.Travelled.{Travelled}
 use Rattle.smol_meaning.specs.declared.way.Travelled.TheVariants.{At, Absorbed}
-use Rattle.smol_meaning.specs.Motion.{Move, all_diffused, arrived, diffused, diffusion, difstep_of, end_of_move}
+use Rattle.smol_meaning.specs.Motion.{all_diffused, arrived, diffused, diffusion, difstep_of, end_of_move}
 use Rattle.smol_meaning.specs.Moves.{EndsWithin, IsMove}
 use Rattle.smol_meaning.specs.Placed.{IsPlaced, StandsWithin}
 use Rattle.smol_meaning.proofs.Ends.{coordinates_of_end, way_ends_within}
-use Rattle.smol_meaning.proofs.Kept.{All-filter_map, Ascend-filter_map, KeepsSerial, item_at}
+use Rattle.smol_meaning.proofs.Kept.{All-filter_map, Ascend-filter_map, item_at}
 
 coordinate_size : (most larger dims : ℕ) (xs : List ℤ) (axis : ℕ) → most ≤ larger → 1 ≤ larger → AreCoordinates most dims xs → unsigned_abs (on_axis xs axis) ≤ larger
 coordinate_size most larger dims [] axis less some are = omega arith

@@ -1,7 +1,7 @@
 -- When commands at times are due, in words.
-use Rattle.std.proofs.Common.{◌≡◌, ℕ, zero, suc, ◌+◌, ◌*◌, ◌/◌, ◌≤◌, ◌<◌, ℤ, pos, negsuc, ◌+ℤ◌, ◌-ℤ◌, ◌*ℤ◌, ◌≤ℤ◌, ◌<ℤ◌, Bool, true, false, ◌&&◌, if◌then◌else◌, T, int_le, int_lt, unsigned_abs, refl, sym, ap, subst, ◌∙◌, arith}
+use Rattle.std.proofs.Common.{◌≡◌, ℕ, zero, suc, ◌+◌, ◌*◌, ◌/◌, ◌≤◌, ◌<◌, ℤ, pos, negsuc, ◌+ℤ◌, ◌-ℤ◌, ◌*ℤ◌, ◌≤ℤ◌, ◌<ℤ◌, Bool, true, false, ◌&&◌, T, int_le, int_lt, refl, sym, subst, arith}
 use Rattle.std.specs.Int.{int_div_euclid, int_min}
-use Rattle.std.proofs.lemmas.Int.{ints, clamps, by_lt_z}
+use Rattle.std.proofs.lemmas.Int.{ints, clamps}
 use Rattle.std.proofs.lemmas.Nat.{mul-le}
 use Rattle.std.proofs.Math.Nat.{div-mul-le_self, le-div_iff_mul-le, mul-le-mul_right}
 use Rattle.smol_types.specs.declared.draft.Draft.{Draft}
@@ -9,7 +9,7 @@ use Rattle.smol_types.specs.declared.command.When.TheVariants.{AtTime, Times}
 use Rattle.smol_types.specs.declared.command.Phase.TheVariants.{At}
 use Rattle.smol_types.specs.Sound.{IsSound}
 use Rattle.smol_meaning.specs.FirstStep.{IsFirstFrom}
-use Rattle.smol_meaning.specs.Timing.{is_at_mark, is_due, is_first_from, last_mark, time_of, were_earlier}
+use Rattle.smol_meaning.specs.Timing.{is_due, last_mark, time_of, were_earlier}
 
 true_from_T : (b : Bool) → T b → b ≡ true
 true_from_T true holds = refl

@@ -1,12 +1,12 @@
 -- Where a way ends that isn't absorbed: on an odd place, no farther out than the start or the farthest plane and the displacement.
-use Rattle.std.proofs.Common.{⊎_elim, ◌≡◌, ℕ, zero, suc, ◌+◌, ◌*◌, ◌^◌, ◌%◌, ◌<◌, ◌≤◌, ◌⊎◌, inl, inr, List, [], ◌∷◌, length, refl, sym, ◌∙◌, ap, subst, arith, ℤ, pos, negsuc, neg_ℤ, ◌+ℤ◌, ◌*ℤ◌, unsigned_abs}
+use Rattle.std.proofs.Common.{⊎_elim, ◌≡◌, ℕ, zero, suc, ◌+◌, ◌*◌, ◌%◌, ◌≤◌, ◌⊎◌, inl, inr, List, [], ◌∷◌, length, refl, ◌∙◌, ap, arith, ℤ, pos, neg_ℤ, ◌+ℤ◌, ◌*ℤ◌, unsigned_abs}
 use Rattle.std.specs.Prelude.{All, max}
 use Rattle.std.proofs.lemmas.Int.{ints}
 use Rattle.smol_geom.specs.declared.place.Place.{Place}
 use Rattle.smol_geom.specs.declared.place.Step3.{Step3}
 use Rattle.smol_geom.specs.declared.moment.Moment.{Moment}
 use Rattle.smol_geom.specs.declared.fold.Fold.{Fold}
-use Rattle.smol_geom.specs.Axes.{EachAxis, IsWithin, IsOdd, IsEven, on_axis}
+use Rattle.smol_geom.specs.Axes.{IsWithin, on_axis}
 use Rattle.smol_geom.specs.Fold.{IsSign}
 use Rattle.smol_geom.specs.Moments.{Has, IsMoment, moments}
 use Rattle.smol_geom.proofs.Cells.{signed}
@@ -18,7 +18,7 @@ use Rattle.smol_types.specs.Sound.{IsSound}
 use Rattle.smol_meaning.specs.declared.way.Standing.{Standing}
 use Rattle.smol_meaning.specs.declared.way.Standing.TheVariants.{Goes, Gone}
 use Rattle.smol_meaning.specs.Plates.{Plate}
-use Rattle.smol_meaning.specs.Way.{after_moment, after_moments, end_on, ended, straight, way_among}
+use Rattle.smol_meaning.specs.Way.{after_moment, after_moments, ended, straight, way_among}
 use Rattle.smol_meaning.specs.Seen.{plates_of, way}
 use Rattle.smol_meaning.specs.Moves.{IsMove, IsEndOf, EndsWithin}
 use Rattle.smol_meaning.specs.Folds.{IsPlate, FoldFits, StandingFits}

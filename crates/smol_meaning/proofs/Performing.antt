@@ -1,14 +1,12 @@
 -- What commands keep: each state fits its configuration, serials stay in order, and the step's number stays.
-use Rattle.std.proofs.Common.{◌≡◌, ℕ, zero, suc, ◌+◌, ◌*◌, ◌%◌, ◌≤◌, ◌<◌, ℤ, pos, ◌<ℤ◌, Bool, true, false, not, if◌then◌else◌, List, [], ◌∷◌, ◌++◌, length, All, filter, unsigned_abs, inl, inr, ◌⊎◌, refl, sym, ap, subst, ◌∙◌, arith}
-use Rattle.std.specs.Prelude.{nat_lt, slice_get, Option, None, Some}
+use Rattle.std.proofs.Common.{◌≡◌, ℕ, zero, suc, ◌+◌, ◌*◌, ◌≤◌, ◌<◌, ℤ, Bool, true, false, not, if◌then◌else◌, List, [], ◌∷◌, ◌++◌, length, All, filter, unsigned_abs, inl, inr, ◌⊎◌, refl, sym, ap, subst, arith}
+use Rattle.std.specs.Prelude.{nat_lt, Option}
 use Rattle.std.specs.List.{list_all}
-use Rattle.std.specs.Option.{option_map_or}
 use Rattle.std.proofs.lemmas.Bool.Decides.{nat_tests}
 use Rattle.std.proofs.lemmas.Int.{ints}
-use Rattle.std.proofs.lemmas.List.{length-append, append-nil}
-use Rattle.std.proofs.lemmas.List.Elements.{All-nil, All-cons, All-head, All-tail, All-append, All-filter, All-weaker}
+use Rattle.std.proofs.lemmas.List.{length-append}
+use Rattle.std.proofs.lemmas.List.Elements.{All-nil, All-cons, All-head, All-tail, All-append, All-filter}
 use Rattle.std.proofs.lemmas.List.Sums.{length-filter, count_by-le-length}
-use Rattle.smol_num.specs.declared.quantities.Threshold.{Threshold}
 use Rattle.smol_geom.specs.declared.place.Place.{Place}
 use Rattle.smol_types.specs.declared.command.Act.{Act}
 use Rattle.smol_types.specs.declared.command.Act.TheVariants as act
@@ -24,8 +22,8 @@ use Rattle.smol_types.specs.Sound.{IsSound}
 use Rattle.smol_types.specs.State.{Ascend, Fits, reach}
 use Rattle.smol_types.specs.Walls.{AreBetween, AreWalls, IsAxis, LiesBetween}
 use Rattle.smol_meaning.specs.Commands.{effect_of, filter_ranked, holds_of, is_hit, is_meant, map_ranked, molecules_at, performed, turned_into, with_mols, with_more}
-use Rattle.smol_meaning.specs.Placed.{IsPlaced, StandsWithin}
-use Rattle.smol_meaning.specs.Stretch.{Stretch, Over, becomes, idle, is_over, prints, stops}
+use Rattle.smol_meaning.specs.Placed.{IsPlaced}
+use Rattle.smol_meaning.specs.Stretch.{Stretch, Over, becomes, idle, is_over, prints}
 use Rattle.smol_meaning.proofs.Diffusing.{Fits-placed}
 use Rattle.smol_meaning.proofs.Kept.{Ascend-append, Ascend-filter, Ascend-from}
 

@@ -1,18 +1,16 @@
 -- What happens in a step: no more events than molecules, each of the configuration, and its products start where molecules stand.
-use Rattle.std.proofs.Common.{◌≡◌, ℕ, zero, suc, ◌+◌, ◌*◌, ◌/◌, ◌^◌, ◌<◌, ◌≤◌, Bool, true, false, not, ◌&&◌, ◌||◌, ◌==◌, nat_lt, nat_le, List, [], ◌∷◌, ◌++◌, length, All, Option, Some, None, slice_get, map, cond, refl, ap, sym, ◌∙◌, subst, arith}
+use Rattle.std.proofs.Common.{◌≡◌, ℕ, suc, ◌+◌, ◌*◌, ◌^◌, ◌<◌, ◌≤◌, Bool, true, false, nat_lt, nat_le, List, [], ◌∷◌, ◌++◌, length, All, Option, Some, None, slice_get, map, cond, refl, ap, ◌∙◌, subst, arith}
 use Rattle.std.specs.Prelude.{IfSome, is_none}
-use Rattle.std.specs.List.{cons_option, filter_map, items_where_true}
+use Rattle.std.specs.List.{cons_option, items_where_true}
 use Rattle.std.specs.Option.{option_map}
 use Rattle.std.proofs.lemmas.Bool.Decides.{nat_tests}
 use Rattle.std.proofs.lemmas.Grind.{common_steps}
 use Rattle.std.proofs.lemmas.List.{length-append, length-map, map-append}
-use Rattle.std.proofs.lemmas.List.Elements.{All-append, All-cons, All-head, All-map, All-nil, All-tail, All-weaker}
+use Rattle.std.proofs.lemmas.List.Elements.{All-append, All-head, All-map, All-tail, All-weaker}
 use Rattle.std.proofs.lemmas.Option.{IfSome_then, get_or_from_slice_get, slice_get_within}
-use Rattle.smol_geom.specs.declared.place.Place.{Place}
 use Rattle.smol_plan.specs.declared.pair.Pair.{Pair}
 use Rattle.smol_plan.specs.Matching.{serial_from, taken_after}
 use Rattle.smol_plan.specs.Matching as matching
-use Rattle.smol_plan.specs.Pair.{has_molecule}
 use Rattle.smol_streams.proofs.Sizes.{word_small}
 use Rattle.smol_streams.specs.Words.{key_of_seed}
 use Rattle.smol_types.specs.declared.draft.Draft.{Draft}
@@ -23,7 +21,7 @@ use Rattle.smol_types.specs.Sound.{IsSound}
 use Rattle.smol_meaning.specs.declared.event.Fired.{Fired}
 use Rattle.smol_meaning.specs.Births.{IsEvent}
 use Rattle.smol_meaning.specs.Chance.{axis_drawn, first_order_word, pair_stream}
-use Rattle.smol_meaning.specs.Encounters.{Encounter, encounters_from, encounters_of, encounters_with, event_of_two, pair_of, reacting, start_of_two}
+use Rattle.smol_meaning.specs.Encounters.{Encounter, encounters_from, encounters_of, encounters_with, event_of_two, pair_of, reacting}
 use Rattle.smol_meaning.specs.Events.{event_of_one, is_free, lone_event, lone_events, lone_reaction, reaction_drawn}
 use Rattle.smol_meaning.specs.Meeting.{IsEncounter}
 use Rattle.smol_meaning.specs.Motion.{difstep_of}

@@ -1,6 +1,6 @@
 -- What decides among the plates that are met.
-use Rattle.std.proofs.Common.{⊎_elim, ◌≡◌, ◌≢◌, ℕ, zero, suc, ◌+◌, ◌*◌, ◌<◌, ◌≤◌, Bool, true, false, ◌⊎◌, inl, inr, List, [], ◌∷◌, cond, refl, sym, ◌∙◌, ap, subst, arith, ℤ, pos, ◌≤ℤ◌, ◌*ℤ◌, int_le}
-use Rattle.std.proofs.lemmas.Bool.{cases_Bool, cond_both, both_ways, le-leb, and_from, and_parts, eq-eqb, eqb-true, leb-true}
+use Rattle.std.proofs.Common.{⊎_elim, ◌≡◌, ℕ, ◌*◌, ◌≤◌, Bool, true, ◌⊎◌, inl, inr, List, [], ◌∷◌, refl, ◌∙◌, ap, arith, ℤ, pos, ◌≤ℤ◌, ◌*ℤ◌, int_le}
+use Rattle.std.proofs.lemmas.Bool.{cases_Bool, cond_both, le-leb, and_from, and_parts}
 use Rattle.std.proofs.lemmas.Int.{ints}
 use borrow.Author.Differences.{le-true, le-false}
 use Rattle.smol_geom.specs.declared.place.Place.{Place}
@@ -8,11 +8,8 @@ use Rattle.smol_geom.specs.declared.place.Step3.{Step3}
 use Rattle.smol_geom.specs.declared.moment.Moment.{Moment}
 use Rattle.smol_geom.specs.declared.fold.Fold.{Fold}
 use Rattle.smol_geom.specs.declared.rect.Rect.{Rect}
-use Rattle.smol_geom.specs.Axes.{on_axis}
 use Rattle.smol_geom.specs.Fraction.{Fraction, whole, ◌≤ℚ◌}
-use Rattle.smol_geom.specs.Fold.{true_point}
-use Rattle.smol_geom.specs.Moment.{part_of}
-use Rattle.smol_geom.specs.Rect.{HoldsPoint, IsInRange}
+use Rattle.smol_geom.specs.Rect.{HoldsPoint}
 use Rattle.smol_meaning.specs.declared.way.Response.{Response}
 use Rattle.smol_meaning.specs.declared.way.Response.TheVariants.{Reflect, Absorb, Jump, Pass}
 use Rattle.smol_meaning.specs.Plates.{Plate, Sheet, Rectangle, Plane, IsOn, is_between, is_in_rect, is_on, is_met, goes_up, response_of, responses_met, first_of, precedence, deciding}

@@ -1,12 +1,11 @@
 -- The plates of a sound configuration are within the bounds that ways rest on.
-use Rattle.std.proofs.Common.{⊎_elim, ◌≡◌, ℕ, zero, suc, ◌+◌, ◌*◌, ◌%◌, ◌<◌, ◌≤◌, Bool, true, false, ◌⊎◌, inl, inr, List, [], ◌∷◌, length, get_or, refl, sym, ◌∙◌, ap, subst, arith, ℤ, pos, ◌+ℤ◌, ◌-ℤ◌, unsigned_abs}
+use Rattle.std.proofs.Common.{◌≡◌, ℕ, zero, suc, ◌+◌, ◌*◌, ◌%◌, ◌<◌, ◌≤◌, Bool, true, false, ◌⊎◌, inl, inr, List, [], ◌∷◌, length, get_or, refl, subst, arith, ℤ, pos, ◌+ℤ◌, ◌-ℤ◌, unsigned_abs}
 use Rattle.std.specs.Prelude.{All, Option, Some, None, IfSome, IsSomeAnd, slice_get, slice_set, find, map}
 use Rattle.std.specs.List.{enumerate_from}
 use Rattle.std.proofs.lemmas.Bool.{cond_both}
 use Rattle.std.proofs.lemmas.Int.{ints}
 use Rattle.std.proofs.lemmas.List.Elements.{All-cons, All-nil, All-map, All-append}
 use Rattle.std.proofs.lemmas.Option.{slice_get_cases}
-use Rattle.smol_geom.specs.declared.rect.Rect.{Rect}
 use Rattle.smol_geom.specs.Axes.{EachAxis, IsEven, on_axis}
 use Rattle.smol_geom.proofs.EachAxis.{at_axis}
 use Rattle.smol_types.specs.declared.draft.Draft.{Draft}
@@ -22,9 +21,9 @@ use Rattle.smol_types.specs.Panels.{IsPanel, IsCongruent, LeadsToCongruent}
 use Rattle.smol_types.specs.Sound.{IsSound}
 use Rattle.smol_types.specs.Walls.{AreWalls}
 use Rattle.smol_meaning.specs.declared.way.Response.{Response}
-use Rattle.smol_meaning.specs.declared.way.Response.TheVariants.{Reflect, Absorb, Jump, Pass}
+use Rattle.smol_meaning.specs.declared.way.Response.TheVariants.{Reflect, Absorb, Jump}
 use Rattle.smol_meaning.specs.Folds.{IsPlate, IsResponse, IsJump, IsPanelRect, IsWallPlane}
-use Rattle.smol_meaning.specs.Plates.{Plate, Sheet, Rectangle, Plane}
+use Rattle.smol_meaning.specs.Plates.{Sheet, Rectangle, Plane}
 use Rattle.smol_meaning.specs.Seen.{arrival_face, response_by, corner_gap, jump_between, panel_jump, panel_response, panel_plate, opposite_of, wall_jump, wall_response, wall_plate, plates_of}
 
 -- what holds of all holds of the one that is got, where one is

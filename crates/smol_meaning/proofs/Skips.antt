@@ -1,5 +1,5 @@
 -- Moments at which nothing changes can be skipped.
-use Rattle.std.proofs.Common.{◌≡◌, ℕ, ◌+◌, ◌<◌, Bool, true, false, ◌⊎◌, inl, inr, ⊎_elim, List, [], ◌∷◌, length, cond, refl, sym, ◌∙◌, ap, arith}
+use Rattle.std.proofs.Common.{◌≡◌, ◌+◌, ◌<◌, Bool, true, false, ◌⊎◌, inl, inr, ⊎_elim, List, [], ◌∷◌, length, refl, sym, ◌∙◌, ap, arith}
 use Rattle.std.specs.List.{filter}
 use Rattle.std.proofs.lemmas.Bool.{cases_Bool, both_ways, cond_both}
 use Rattle.smol_geom.specs.declared.place.Place.{Place}
@@ -7,10 +7,10 @@ use Rattle.smol_geom.specs.declared.place.Step3.{Step3}
 use Rattle.smol_geom.specs.declared.moment.Moment.{Moment}
 use Rattle.smol_geom.specs.declared.fold.Fold.{Fold}
 use Rattle.smol_meaning.specs.declared.way.Standing.{Standing}
-use Rattle.smol_meaning.specs.declared.way.Standing.TheVariants.{Goes, Gone}
+use Rattle.smol_meaning.specs.declared.way.Standing.TheVariants.{Goes}
 use Rattle.smol_geom.specs.Moments.{Has, IsInOrder}
 use Rattle.smol_geom.specs.Moments.{is_before, moments_after}
-use Rattle.smol_meaning.specs.Plates.{Plate, Sheet, Rectangle, Plane, is_met, responses_met, deciding, done_by}
+use Rattle.smol_meaning.specs.Plates.{Plate, responses_met, deciding, done_by}
 use Rattle.smol_meaning.specs.Way.{after_moment, after_moments}
 use Rattle.smol_geom.proofs.Order.{before_not_back, not_before_itself, before_trans}
 

@@ -1,13 +1,10 @@
 -- A step leads from a state that fits its configuration to one that does.
-use Rattle.std.proofs.Common.{◌≡◌, ℕ, zero, suc, ◌+◌, ◌*◌, ◌-◌, ◌^◌, ◌<◌, ◌≤◌, Bool, true, false, nat_lt, List, [], ◌∷◌, ◌++◌, length, All, Option, Some, None, Result, Ok, Err, filter, map, cond, get_or, ℤ, refl, ap, sym, ◌∙◌, subst, arith}
+use Rattle.std.proofs.Common.{◌≡◌, ℕ, zero, suc, ◌+◌, ◌*◌, ◌-◌, ◌^◌, ◌≤◌, Bool, true, false, nat_lt, List, [], ◌∷◌, ◌++◌, length, All, Option, Ok, Err, filter, map, cond, get_or, ℤ, refl, ap, sym, subst, arith}
 use Rattle.std.specs.Prelude.{IfSome}
 use Rattle.std.specs.List.{cons_option, filter_map}
 use Rattle.std.proofs.lemmas.Bool.Decides.{nat_tests}
-use Rattle.std.proofs.lemmas.Grind.{common_steps}
-use Rattle.std.proofs.lemmas.List.{length-append}
 use Rattle.std.proofs.lemmas.List.Elements.{All-append, All-cons, All-filter, All-head, All-map, All-nil, All-tail, All-weaker}
 use Rattle.std.proofs.lemmas.Option.{IfSome_then}
-use Rattle.smol_geom.specs.declared.place.Place.{Place}
 use Rattle.smol_types.specs.declared.draft.Draft.{Draft}
 use Rattle.smol_types.specs.declared.reaction.Placement.{Placement}
 use Rattle.smol_types.specs.declared.reaction.Product.{Product}
@@ -24,11 +21,11 @@ use Rattle.smol_meaning.specs.declared.way.Travelled.{Travelled}
 use Rattle.smol_meaning.specs.declared.way.Travelled.TheVariants.{At, Absorbed}
 use Rattle.smol_meaning.specs.Births.{IsBirth, IsEvent}
 use Rattle.smol_meaning.specs.Events.{birth_move, births_in, births_of, births_of_event, born, placement_of, products_of}
-use Rattle.smol_meaning.specs.Motion.{Move, all_diffused, arrived, diffused, diffusion, end_of_move}
+use Rattle.smol_meaning.specs.Motion.{all_diffused, arrived, diffused, diffusion, end_of_move}
 use Rattle.smol_meaning.specs.Moves.{IsMove}
 use Rattle.smol_meaning.specs.Placed.{IsMoveOf, IsPlaced, StandsWithin}
 use Rattle.smol_meaning.specs.Step.{births_in_step, events_of, mols_after, moves_of, next_state, reacted, reactions_of_two, remains, within_limit}
-use Rattle.smol_meaning.proofs.Births.{births_of_are, births_of_few, length-births_in, length-births_of_event}
+use Rattle.smol_meaning.proofs.Births.{births_of_are, births_of_few, length-births_of_event}
 use Rattle.smol_meaning.proofs.Diffusing.{Fits-placed, all_diffused_placed, arrived_placed, diffused_ascend, diffusion_moves, is_move, longest_diffusion, reach_near}
 use Rattle.smol_meaning.proofs.Ends.{way_ends_within}
 use Rattle.smol_meaning.proofs.Kept.{All-filter_map, Ascend-append, Ascend-filter, Ascend-from, length-filter_map}

@@ -1,5 +1,5 @@
 -- Which molecules may react with each other, and which do.
-use Rattle.std.specs.Prelude.{ℕ, ◌+◌, ◌*◌, ◌&&◌, ◌||◌, ◌==◌, Bool, true, false, not, nat_le, nat_lt, List, [], ◌∷◌, ◌++◌, Option, None, Some, if◌then◌else◌, map, unsigned_abs}
+use Rattle.std.specs.Prelude.{ℕ, ◌+◌, ◌*◌, ◌&&◌, ◌||◌, ◌==◌, Bool, false, not, nat_le, nat_lt, List, [], ◌∷◌, ◌++◌, Option, None, Some, if◌then◌else◌, map, unsigned_abs}
 use Rattle.std.specs.List.{items_where_true, list_any}
 use Rattle.smol_num.specs.declared.quantities.Micro.{Micro}
 use Rattle.smol_geom.specs.declared.place.Place.{Place}

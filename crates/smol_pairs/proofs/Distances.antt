@@ -1,10 +1,10 @@
 -- Places that are too far apart on one axis are too far apart.
 use Rattle.std.proofs.Common.{⊎_elim, ◌≡◌, ℕ, ◌+◌, ◌*◌, ◌<◌, ◌≤◌, Bool, false, ◌&&◌, arith}
 use Rattle.std.specs.Prelude.{nat_le}
-use Rattle.std.proofs.lemmas.Bool.{and_cases, le-leb, lt-leb, leb-false}
+use Rattle.std.proofs.lemmas.Bool.{and_cases, lt-leb, leb-false}
 use Rattle.std.proofs.lemmas.Nat.{mul-le}
 use Rattle.smol_geom.specs.declared.place.Place.{Place}
-use Rattle.smol_geom.specs.Place.{gap, square_of_distance, square_of_gap}
+use Rattle.smol_geom.specs.Place.{gap, square_of_distance}
 use Rattle.smol_pairs.specs.Near.{are_within_on}
 
 square_more : (far most : ℕ) → most < far → most * most < far * far

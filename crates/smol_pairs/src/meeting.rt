@@ -1,5 +1,5 @@
 //! Whether two molecules may react.
-ghost use Rattle.std.specs.Prelude.{◌≡◌, ◌<◌, ◌≤◌, ◌^◌, length};
+ghost use Rattle.std.specs.Prelude.{◌≡◌, ◌<◌, ◌^◌, length};
 ghost use Rattle.smol_types.specs.Reactions.{IsReaction, reacts_together};
 ghost use Rattle.smol_meaning.specs.Chance.{pair_word};
 ghost use Rattle.smol_meaning.specs.Encounters.{may_react};

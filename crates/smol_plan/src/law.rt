@@ -1,5 +1,5 @@
 //! What holds of the machine whatever the order of events. These functions do nothing: their contracts are the laws.
-ghost use Rattle.std.specs.Prelude.{◌≡◌, ℕ, ◌+◌, ◌*◌, ◌<◌, ◌≤◌, ◌⊎◌, List, length};
+ghost use Rattle.std.specs.Prelude.{ℕ, ◌+◌, ◌*◌, ◌<◌, ◌≤◌, ◌⊎◌, List, length};
 ghost use Rattle.smol_plan.specs.declared.pair.Pair.{Pair};
 ghost use Rattle.smol_plan.specs.declared.event.Event.{Event};
 ghost use Rattle.smol_plan.specs.Machine.{State, first_state, slice_count, effect, effects, IsEnabled, AreEnabled};

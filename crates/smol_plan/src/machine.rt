@@ -2,7 +2,7 @@
 ghost use Rattle.std.specs.Prelude.{◌≡◌, ℕ, ◌+◌, ◌<◌, ◌≤◌, ◌↔◌, length, IfOk, IsTrue};
 ghost use Rattle.smol_plan.specs.Pair.{molecule_at};
 ghost use Rattle.smol_plan.specs.Matching.{fires};
-ghost use Rattle.smol_plan.specs.Links.{is_link, is_number, is_taken_before};
+ghost use Rattle.smol_plan.specs.Links.{is_number, is_taken_before};
 ghost use Rattle.smol_plan.specs.Machine.{first_state, slice_count, left_of, effect, after_take, after_decide, after_tell, IsEnabled};
 ghost use Rattle.smol_plan.specs.Good.{Good};
 ghost use Rattle.smol_plan.specs.Decision.{TellsTaken};

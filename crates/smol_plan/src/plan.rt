@@ -3,7 +3,7 @@ ghost use Rattle.std.specs.Prelude.{◌≡◌, ℕ, ◌+◌, ◌*◌, ◌<◌, �
 ghost use Rattle.smol_plan.specs.declared.pair.Side.{Side};
 ghost use Rattle.smol_plan.specs.Pair.{IsOrdered, molecule_at};
 ghost use Rattle.smol_plan.specs.Links.{has_at, source_of, IsLastBefore, IsNextAfter};
-ghost use Rattle.smol_plan.specs.Linked.{unlinked, links_at, earlier_of, later_of, with_earlier, with_later, joined, entries_from, entry_at, AreUnlinked, AreInside, LinkedUpTo, IsRising};
+ghost use Rattle.smol_plan.specs.Linked.{unlinked, earlier_of, later_of, with_earlier, with_later, joined, entries_from, AreUnlinked, AreInside, LinkedUpTo, IsRising};
 ghost use Rattle.smol_plan.specs.Machine.{slice_of, slice_count, has_no_link};
 
 use crate::pair::{Pair, Side};

@@ -1,12 +1,12 @@
 -- How calls one after the other come to an outcome, or are cut off on the way to it.
-use Rattle.std.proofs.Common.{◌≡◌, ℕ, ◌<◌, ◌≤◌, List, [], ◌∷◌, ◌++◌, length, take, Option, None, Some, IfSome, Result, Ok, Err, IsErr, IsOkAnd, refl, sym, ◌∙◌, ap, subst, append_assoc, arith}
+use Rattle.std.proofs.Common.{◌≡◌, ℕ, ◌<◌, List, [], ◌++◌, length, take, Option, None, Some, IfSome, Result, Ok, Err, IsErr, IsOkAnd, refl, sym, ◌∙◌, ap, arith}
 use Rattle.std.proofs.lemmas.List.{append-nil, take_all}
 use Rattle.smol_edge.specs.Faults.{Tells}
 use Rattle.smol_edge.specs.Source.{Reading}
 use Rattle.smol_edge.proofs.Telling.{Tells-same, Tells-then, Tells-weaker}
 use Rattle.smol_edge.specs.Outlets.{Appends, AppendsFrontOf, Piece, Written, bytes_on, front_of}
-use Rattle.smol_edge.proofs.Pieces.{Appends-joined, Appends-nothing, Appends-then}
-use Rattle.smol_edge.proofs.PieceFronts.{AppendsFrontOf-after, AppendsFrontOf-all, AppendsFrontOf-longer, byte_count, bytes_on-front_of-zero, front_of-all}
+use Rattle.smol_edge.proofs.Pieces.{Appends-then}
+use Rattle.smol_edge.proofs.PieceFronts.{AppendsFrontOf-after, AppendsFrontOf-longer, byte_count, bytes_on-front_of-zero, front_of-all}
 use Rattle.smol_meaning.specs.Placement.{NoPlace}
 use Rattle.smol_meaning.specs.Stretch.{Ending, GoesOn, Stopped, Over, Stretch}
 use Rattle.smol_loop.specs.Simulation.{IsComplete, pieces_of}

@@ -1,11 +1,9 @@
 -- Every run goes safely.
-use Rattle.std.proofs.Common.{◌≡◌, ℕ, List, [], Option, None, Some, IfSome, Ok, All, get_or}
+use Rattle.std.proofs.Common.{ℕ, List, [], Option, None, Some, IfSome, get_or}
 use Rattle.std.specs.Prelude.{slice_index_or}
 use Rattle.smol_edge.specs.Source.{Reading}
-use Rattle.smol_types.specs.declared.draft.Draft.{Draft}
 use Rattle.smol_config.proofs.WholeSound.{accepted_is_sound}
 use Rattle.smol_meaning.specs.Seen.{plates_of}
-use Rattle.smol_meaning.specs.Stretch.{Stretch}
 use Rattle.smol_meaning.proofs.Courses.{run_confines, run_is_kept}
 use Rattle.smol_meaning.proofs.Crossings.{crosses_none}
 use Rattle.smol_confined.proofs.Filling.{events_of_run_are_confined}

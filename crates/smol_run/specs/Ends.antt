@@ -1,5 +1,5 @@
 -- How what outlets tell before and after a call goes with an outcome.
-use Rattle.std.specs.Prelude.{◌≡◌, ℕ, ◌<◌, List, [], ◌++◌, length, take, Option, None, Some, Result, Ok, Err}
+use Rattle.std.specs.Prelude.{◌≡◌, ℕ, ◌<◌, [], ◌++◌, length, take, Option, None, Some, Result, Ok, Err}
 use Rattle.smol_edge.specs.Faults.{Rose}
 use Rattle.smol_edge.specs.Outlets.{Appends, Written, bytes_on, front_of}
 use Rattle.smol_run.specs.declared.status.Status.{Status}

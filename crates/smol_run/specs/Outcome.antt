@@ -1,9 +1,7 @@
 -- How a run ends, and what it writes: the result of a call.
-use Rattle.std.specs.Prelude.{◌≡◌, ◌≢◌, ◌⊎◌, ℕ, ◌<◌, List, [], ◌∷◌, ◌++◌, length, take, Option, None, Some, Result, Ok, Err, codes, slice_index_or, unwrap_or}
-use Rattle.std.specs.Option.{option_and_then}
+use Rattle.std.specs.Prelude.{ℕ, List, [], ◌∷◌, ◌++◌, Option, None, Some, Result, Ok, Err, codes, slice_index_or, unwrap_or}
 use Rattle.std.specs.Fmt.{decimal}
-use Rattle.smol_edge.specs.Source.{Reading}
-use Rattle.smol_edge.specs.Outlets.{Appends, Piece, Written, bytes_on, front_of}
+use Rattle.smol_edge.specs.Outlets.{Piece}
 use Rattle.smol_types.specs.declared.draft.Draft.{Draft}
 use Rattle.smol_types.specs.Fault.{kind_text}
 use Rattle.smol_line.specs.Fault.{Fault}

@@ -3,7 +3,7 @@ ghost use Rattle.std.specs.Prelude.{◌≡◌, ◌<◌, ◌+◌, ◌++◌, ◌�
 ghost use Rattle.smol_edge.specs.Faults.{Tells};
 ghost use Rattle.smol_edge.specs.Outlets.{Appends, AppendsFrontOf};
 ghost use Rattle.smol_run.specs.Ends.{CountsLoss};
-ghost use Rattle.smol_run.specs.Outcome.{error_line, no_place_line, over_line};
+ghost use Rattle.smol_run.specs.Outcome.{no_place_line, over_line};
 
 use crate::loss::Loss;
 use itoa::Buffer;

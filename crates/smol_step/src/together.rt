@@ -1,5 +1,5 @@
 //! Reactions of two molecules.
-ghost use Rattle.std.specs.Prelude.{◌≡◌, ◌++◌, ◌∷◌, [], ◌<◌, ◌≤◌, All, IfOk, OnOk, length, map, false, slice_set};
+ghost use Rattle.std.specs.Prelude.{◌≡◌, ◌++◌, ◌∷◌, [], ◌<◌, ◌≤◌, All, OnOk, length, map, false, slice_set};
 ghost use Rattle.smol_plan.specs.Matching.{serial};
 ghost use Rattle.smol_types.specs.declared.state.Mol.{Mol as TheMol};
 ghost use Rattle.smol_types.specs.Limits.{last_serial};

@@ -10,7 +10,7 @@ use Rattle.smol_text.specs.declared.standing.Standing.{Standing}
 use Rattle.smol_text.specs.declared.standing.Standing.TheVariants.{Open, Commented, Ended}
 use Rattle.smol_text.specs.declared.text_fault.TextFault.{TextFault}
 use Rattle.smol_text.specs.declared.text_fault.TextFault.TheVariants.{BadByte, OpenComment, TooManyLines, OutOfMemory}
-use Rattle.smol_text.specs.Lines.{raw_lines, uncommented, words}
+use Rattle.smol_text.specs.Lines.{raw_lines, uncommented}
 use Rattle.smol_text.specs.Reading.{Stated, LinesFault, bad_byte, open_comment, too_many_lines, is_open, is_ended, is_allowed, first_word, standing_after, standing, is_read, line_fault, stated, behind, end_fault, statements_from, statements_of, TellsLines}
 use Rattle.smol_text.specs.Spans.{LinedText, placed_at, start_of, lines_from, lines_of, stated_at, stated_lines}
 use Rattle.smol_text.proofs.Places.{StandAt, StandAt-raw_lines, map-placed_at}

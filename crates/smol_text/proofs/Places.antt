@@ -6,7 +6,6 @@ use Rattle.std.proofs.lemmas.List.{length-drop, drop-drop, take-take, length-tak
 use Rattle.std.proofs.lemmas.List.Elements.{All-nil, All-cons, All-append}
 use Rattle.std.proofs.lemmas.List.Sums.{prefix_len-le-length, sum_by-cons}
 use Rattle.smol_text.specs.declared.line.Span.{Span}
-use Rattle.smol_text.specs.declared.line.Line.{Line}
 use Rattle.smol_text.specs.Lines.{begins_comment, is_line_feed, separates, without_empty_last, has_bytes, raw_lines, uncommented, words, words_in}
 use Rattle.smol_text.specs.Reading.{is_read, stated_if}
 use Rattle.smol_text.specs.Spans.{slice_of, IsWithin, AllWithin, IsSpelled, places_of_pieces, places, part_place, placed_if, placed_at, start_of, stated_at, lines_from, lines_of}

@@ -1,5 +1,5 @@
 //! A text is split into the lines that make statements, and such a line into words.
-ghost use Rattle.std.specs.Prelude.{◌≡◌, ◌≢◌, ◌+◌, ◌++◌, ◌^◌, ◌≤◌, length, not, true, false, is_ok, IsTrue, OnOk, IfOk, IfErr};
+ghost use Rattle.std.specs.Prelude.{◌≡◌, ◌≢◌, ◌+◌, ◌++◌, ◌≤◌, length, not, true, false, is_ok, IsTrue, OnOk, IfOk, IfErr};
 ghost use Rattle.std.specs.List.{list_all, position, slice_split};
 ghost use Rattle.smol_text.specs.Lines.{begins_comment, is_line_feed, separates, uncommented};
 ghost use Rattle.smol_text.specs.Reading.{first_word, is_allowed, statements_of, TellsLines};

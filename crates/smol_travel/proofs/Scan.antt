@@ -1,5 +1,5 @@
 -- The scan of the panels and walls for the next meeting.
-use Rattle.std.proofs.Common.{⊎_elim, ◌≡◌, ℕ, zero, suc, ◌+◌, ◌*◌, ◌<◌, ◌≤◌, ◌↔◌, Bool, true, false, IsTrue, ◌⊎◌, inl, inr, List, [], ◌∷◌, ◌++◌, length, get_or, take, drop, Option, Some, None, refl, sym, ◌∙◌, ap, subst, arith, ℤ, pos, ◌*ℤ◌, ◌<ℤ◌}
+use Rattle.std.proofs.Common.{⊎_elim, ◌≡◌, ℕ, ◌+◌, ◌*◌, ◌<◌, ◌≤◌, ◌↔◌, Bool, true, false, IsTrue, ◌⊎◌, inl, inr, List, ◌++◌, length, get_or, take, Option, Some, None, refl, sym, ◌∙◌, ap, subst, arith, pos}
 use Rattle.std.specs.List.{All}
 use Rattle.std.proofs.lemmas.Bool.{cond_both, both_ways, false_from_ne_true, cases_order}
 use Rattle.std.proofs.lemmas.Int.{ints}
@@ -17,7 +17,7 @@ use Rattle.smol_geom.specs.Rect.{HoldsPoint}
 use Rattle.smol_geom.proofs.Order.{Before, before_is, is_before_from, before_trans, before_either, not_before_itself}
 use Rattle.smol_meaning.specs.Plates.{Sheet, is_in_rect, is_met}
 use Rattle.smol_meaning.proofs.Responses.{holds_from, holds_is}
-use Rattle.smol_travel.specs.Meetings.{NoneMet, IsLater, NothingBefore, NothingLeft, IsNext, earlier_of, earliest_of}
+use Rattle.smol_travel.specs.Meetings.{NoneMet, IsLater, NothingBefore, IsNext, earlier_of, earliest_of}
 
 -- what the code's comparison says
 pub before_agrees : (a b : Moment) (t : Bool) → (IsTrue t ↔ IsBefore a b) → t ≡ is_before a b

@@ -1,5 +1,5 @@
 -- Reactions that a configuration may have.
-use Rattle.std.specs.Prelude.{◌≡◌, ℕ, ◌*◌, ◌<◌, ◌≤◌, Bool, false, ◌==◌, ◌&&◌, ◌||◌, pos, ◌≤ℤ◌, List, [], ◌∷◌, length, All, Option, None, Some, IfSome, if◌then◌else◌, unsigned_abs}
+use Rattle.std.specs.Prelude.{◌≡◌, ℕ, ◌*◌, ◌<◌, ◌≤◌, Bool, false, ◌==◌, ◌&&◌, ◌||◌, pos, ◌≤ℤ◌, List, [], ◌∷◌, length, All, IfSome, if◌then◌else◌, unsigned_abs}
 use Rattle.smol_num.specs.declared.quantities.Micro.{Micro}
 use Rattle.smol_geom.specs.Axes.{on_axis, EachAxis, IsEven, IsWithin}
 use Rattle.smol_types.specs.declared.reaction.Placement.{Placement}

@@ -1,4 +1,4 @@
-use Rattle.std.proofs.Common.{◌≡◌, ◌<◌, arith, length, ap, refl, subst, ◌∙◌, ℕ, Err}
+use Rattle.std.proofs.Common.{◌<◌, arith, length, ap, refl, subst, ◌∙◌, ℕ, Err}
 use Rattle.smol_edge.specs.Faults.{Tells}
 use Rattle.smol_commands.specs.declared.flow.Flow.{Flow}
 use Rattle.smol_loop.specs.Parts.{EndsPart, GivesPart}

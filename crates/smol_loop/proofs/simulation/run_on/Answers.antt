@@ -1,4 +1,4 @@
-use Rattle.std.proofs.Common.{ℕ, Err, refl, subst, ◌∙◌, []}
+use Rattle.std.proofs.Common.{ℕ, refl, subst, ◌∙◌, []}
 use Rattle.smol_edge.specs.Faults.{Tells}
 use Rattle.smol_types.specs.declared.command.Phase.TheVariants as phase
 use Rattle.smol_meaning.specs.Run.{course, phase_of}

@@ -1,9 +1,8 @@
-use Rattle.std.proofs.Common.{◌≡◌, ◌<◌, ◌≤◌, ◌+◌, ◌-◌, ℕ, arith, ap, refl, sym, subst, ◌∙◌, Ok, Err}
+use Rattle.std.proofs.Common.{◌<◌, ◌≤◌, ◌+◌, ◌-◌, ℕ, arith, ap, refl, sym, subst, ◌∙◌, Ok, Err}
 use Rattle.smol_edge.specs.Faults.{Tells}
 use Rattle.smol_types.specs.declared.command.Phase.TheVariants as phase
 use Rattle.smol_meaning.specs.Run.{phase_of, steps_from, steps_of}
 use Rattle.smol_commands.specs.declared.flow.Flow.{Flow}
-use Rattle.smol_commands.specs.declared.flow.Flow.TheVariants.{Stop}
 use Rattle.smol_loop.specs.Parts.{EndsPart, GivesPart}
 use Rattle.smol_loop.proofs.Joining.{counts_then, fault_ends, fault_gives, last_ends, last_gives, stop_ends, stop_gives}
 use Rattle.smol_loop.proofs.StepsMade.{at_ok, one_step, one_step_more, steps_begin, steps_rest, steps_whole}

@@ -2,7 +2,6 @@ use Rattle.std.proofs.Common.{ℕ, Err, refl, subst, []}
 use Rattle.smol_edge.specs.Faults.{Tells}
 use Rattle.smol_types.specs.declared.command.Phase.TheVariants as phase
 use Rattle.smol_meaning.specs.Run.{phase_of, step_of}
-use Rattle.smol_meaning.specs.Stretch.{followed_by}
 use Rattle.smol_commands.specs.declared.flow.Flow.{Flow}
 use Rattle.smol_loop.specs.Parts.{EndsPart, GivesPart}
 use Rattle.smol_loop.proofs.Joining.{behind_nothing, fault_gives, goes_on, last_gives}

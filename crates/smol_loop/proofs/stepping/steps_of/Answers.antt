@@ -1,6 +1,5 @@
-use Rattle.std.proofs.Common.{◌≡◌, ◌≤◌, arith, to_z, of_z, w64}
+use Rattle.std.proofs.Common.{◌≡◌, arith, to_z, of_z, w64}
 use Rattle.std.proofs.lemmas.Int.{ints}
-use Rattle.smol_types.specs.Limits.{most_steps}
 use Rattle.smol_types.specs.Steps.{last_step}
 use Rattle.smol_loop.proofs.stepping.steps_of.Goals as goal
 

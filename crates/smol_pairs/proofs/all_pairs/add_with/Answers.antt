@@ -1,4 +1,4 @@
-use Rattle.std.proofs.Common.{◌≡◌, ◌+◌, ℕ, List, [], ◌++◌, length, get_or, drop, map, sym, subst, ap, ◌∙◌, Vec, Global}
+use Rattle.std.proofs.Common.{◌≡◌, ◌+◌, ℕ, [], ◌++◌, get_or, drop, map, sym, subst, ap, ◌∙◌, Vec, Global}
 use Rattle.smol_types.specs.declared.state.Mol.{Mol}
 use Rattle.smol_plan.specs.declared.pair.Pair.{Pair}
 use Rattle.smol_meaning.specs.Encounters.{encounters_of_two, encounters_with, pair_of}

@@ -1,7 +1,7 @@
-use Rattle.std.proofs.Common.{◌≡◌, ◌+◌, ℕ, List, [], ◌++◌, length, get_or, drop, map, sym, subst, ap, ◌∙◌, Vec, Global}
+use Rattle.std.proofs.Common.{◌≡◌, ◌+◌, ℕ, [], ◌++◌, get_or, drop, map, sym, subst, ap, ◌∙◌, Vec, Global}
 use Rattle.smol_types.specs.declared.state.Mol.{Mol}
 use Rattle.smol_plan.specs.declared.pair.Pair.{Pair}
-use Rattle.smol_meaning.specs.Encounters.{candidates_of, encounters_from, encounters_with, pair_of}
+use Rattle.smol_meaning.specs.Encounters.{encounters_from, encounters_with, pair_of}
 use Rattle.smol_meaning.specs.Events.{is_free}
 use Rattle.smol_pairs.proofs.Meetings.{free_there, from_next, none_left, pairs_passed, pairs_taken}
 use Rattle.smol_pairs.proofs.all_pairs.all_candidates.Goals as goal

@@ -1,7 +1,6 @@
-use Rattle.std.proofs.Common.{◌≡◌, Bool, false, not, List, [], All, sym, subst, ap, ◌∙◌}
+use Rattle.std.proofs.Common.{Bool, not, List, All, sym, subst, ap, ◌∙◌}
 use Rattle.std.specs.Prelude.{is_some}
 use Rattle.std.specs.List.{list_any}
-use Rattle.std.proofs.lemmas.Bool.{not-true}
 use Rattle.smol_types.specs.declared.reaction.Reaction.{Reaction}
 use Rattle.smol_types.specs.Limits.{last_serial}
 use Rattle.smol_plan.specs.Pair.{IsOrdered}

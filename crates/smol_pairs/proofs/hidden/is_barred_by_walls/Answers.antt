@@ -1,4 +1,4 @@
-use Rattle.std.proofs.Common.{◌≡◌, ◌<◌, List, length, get_or, Bool, false, pos, sym, ap, subst, arith}
+use Rattle.std.proofs.Common.{◌<◌, List, length, get_or, false, pos, sym, ap, subst, arith}
 use Rattle.smol_types.specs.declared.wall.Letter.TheVariants.{R}
 use Rattle.smol_types.specs.declared.wall.Wall.{Wall}
 use Rattle.smol_pairs.proofs.Passing.{wall_axis}

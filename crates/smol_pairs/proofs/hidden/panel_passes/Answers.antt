@@ -1,4 +1,4 @@
-use Rattle.std.proofs.Common.{◌≡◌, ap, ◌∙◌}
+use Rattle.std.proofs.Common.{ap, ◌∙◌}
 use Rattle.smol_types.specs.declared.surface.Face.{Face}
 use Rattle.smol_types.specs.Actions.{action_of}
 use Rattle.smol_meaning.specs.Seen.{arrival_face}

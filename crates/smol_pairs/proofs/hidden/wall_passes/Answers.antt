@@ -1,4 +1,4 @@
-use Rattle.std.proofs.Common.{◌≡◌, ◌+◌, ap, ◌∙◌, List, length}
+use Rattle.std.proofs.Common.{◌+◌, ap, ◌∙◌, List, length}
 use Rattle.smol_types.specs.declared.surface.Panel.{Panel}
 use Rattle.smol_types.specs.Actions.{action_of}
 use Rattle.smol_meaning.specs.Seen.{arrival_face}

@@ -1,4 +1,4 @@
-use Rattle.std.proofs.Common.{◌≡◌, sym, ◌∙◌}
+use Rattle.std.proofs.Common.{sym, ◌∙◌}
 use Rattle.smol_pairs.proofs.Distances.{too_far}
 use Rattle.smol_pairs.proofs.near.are_within.Goals as goal
 

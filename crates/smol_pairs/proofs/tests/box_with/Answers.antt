@@ -1,4 +1,4 @@
-use Rattle.std.proofs.Common.{◌≡◌, [], ◌∷◌, pos, Option, None, sym, subst}
+use Rattle.std.proofs.Common.{◌≡◌, pos, None, sym, subst}
 use Rattle.smol_types.specs.declared.draft.Draft.{Draft}
 use Rattle.smol_types.specs.declared.surface.Surface.{Surface}
 use Rattle.smol_types.specs.Sound.{IsSound}

@@ -1,4 +1,4 @@
-use Rattle.std.proofs.Common.{◌≡◌, ◌∙◌}
+use Rattle.std.proofs.Common.{◌∙◌}
 use Rattle.smol_pairs.proofs.TestedBox.{all_free}
 use Rattle.smol_pairs.proofs.tests.found.Goals as goal
 

@@ -1,5 +1,4 @@
-use Rattle.std.proofs.Common.{refl, ap, ◌∙◌, ◌∷◌, []}
-use Rattle.smol_edge.specs.Outlets.{AppendsFrontOf}
+use Rattle.std.proofs.Common.{refl, ◌∙◌}
 use Rattle.smol_run.specs.Outcome.{refused}
 use Rattle.smol_run.proofs.Cuts.{goes_cut_off, told_at_once, told_front}
 use Rattle.smol_run.proofs.program.refuse.Goals as goal

@@ -5,7 +5,7 @@ use Rattle.smol_run.specs.Outcome.{outcome_of_file, refused}
 use Rattle.smol_types.specs.declared.fault.Kind.TheVariants as kind
 use Rattle.smol_types.specs.Fault.{kind_text}
 use Rattle.smol_run.proofs.Cuts.{goes_cut_off}
-use Rattle.smol_run.proofs.Files.{contents_taken, contents_long, goes_with_contents, goes_with_long, nothing_yet_of}
+use Rattle.smol_run.proofs.Files.{contents_long, goes_with_long, nothing_yet_of}
 use Rattle.smol_run.proofs.program.run_file.Goals as goal
 
 pub returns-in_default-clause-ended : goal.returns-in_default-clause-ended

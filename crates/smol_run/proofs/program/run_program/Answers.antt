@@ -1,4 +1,4 @@
-use Rattle.std.proofs.Common.{Ok, Err, map, string_bytes}
+use Rattle.std.proofs.Common.{Ok, map, string_bytes}
 use Rattle.smol_edge.specs.Source.{Reading}
 use Rattle.smol_run.specs.declared.stop.Stop.{Stop}
 use Rattle.smol_run.specs.declared.stop.Stop.TheVariants as stop

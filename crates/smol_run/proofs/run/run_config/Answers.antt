@@ -1,4 +1,4 @@
-use Rattle.std.proofs.Common.{◌≡◌, ℕ, List, [], ◌∷◌, ◌++◌, ◌∙◌, codes, refl}
+use Rattle.std.proofs.Common.{[], ◌∙◌}
 use Rattle.smol_edge.specs.Outlets.{Appends, AppendsFrontOf}
 use Rattle.smol_edge.proofs.Telling.{Tells-then, Tells-weaker}
 use Rattle.smol_edge.proofs.PieceFronts.{AppendsFrontOf-all, AppendsFrontOf-nothing}
