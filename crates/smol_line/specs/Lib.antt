@@ -8,3 +8,4 @@ pub mod Axis
 pub mod Length
 pub mod Axes
 pub mod Coordinate
+pub mod Answers
