@@ -7,11 +7,12 @@ use Rattle.smol_types.specs.declared.surface.Face.{Face}
 use Rattle.smol_types.specs.declared.surface.Face.TheVariants.{Front, Back}
 use Rattle.smol_line.specs.declared.refusal.Refusal.{Refusal}
 use Rattle.smol_line.specs.declared.refusal.Refusal.TheVariants.{At, OutOfMemory}
+use Rattle.smol_line.specs.LookingBack.{nearer}
 use Rattle.smol_blocks.specs.declared.jump.Leading.{Leading}
 use Rattle.smol_blocks.specs.declared.panel_table.PanelTable.{PanelTable}
 use Rattle.smol_blocks.specs.declared.surface_table.SurfaceTable.{SurfaceTable}
 use Rattle.smol_blocks.specs.Panel.{Named}
-use Rattle.smol_blocks.specs.Surface.{SurfaceSaid, Known, names_of, rects_of, sides_of, acting_on, led_by, led_to, nearer}
+use Rattle.smol_blocks.specs.Surface.{SurfaceSaid, Known, names_of, rects_of, sides_of, acting_on, led_by, led_to}
 
 -- jumps lead to panels of these, if anywhere
 abbrev pub LeadWithin : ℕ → List (Option (ℕ × Face)) → Type 0

@@ -2,6 +2,7 @@
 use Rattle.std.proofs.Common.{◌≡◌, Bool, true, false, List, ◌∷◌, Option, None, Some, Result, Ok, Err, refl}
 use Rattle.smol_types.specs.declared.fault.Kind.{Kind}
 use Rattle.smol_line.specs.Checks.{unless, once, passing, there, with_value}
+use Rattle.smol_line.specs.LookingBack.{say}
 
 -- the first test was passed, and so were the others
 pub passed : {T : Type 0} (test : Option Kind) (tests : List (Option Kind)) (value : Result T Kind) (found : T) → passing (test ∷ tests) value ≡ Ok found → (test ≡ None) × (passing tests value ≡ Ok found)
@@ -24,3 +25,8 @@ not_yet (Some value) is = absurd cc
 pub is_there : {T : Type 0} (given : Option T) (kind : Kind) (found : T) → there given kind ≡ Ok found → given ≡ Some found
 is_there None kind found is = absurd cc
 is_there (Some value) kind found is = cc
+
+-- what is said is said by a value
+pub said_by : {T S : Type 0} (said : T → S) (rule : Result T Kind) (more : S) → say said rule ≡ Ok more → (value : T) × (rule ≡ Ok value) × (said value ≡ more)
+said_by said (Ok value) more is = (value, refl, cc)
+said_by said (Err kind) more is = absurd cc

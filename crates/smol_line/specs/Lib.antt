@@ -8,4 +8,5 @@ pub mod Axis
 pub mod Length
 pub mod Axes
 pub mod Coordinate
+pub mod LookingBack
 pub mod Answers

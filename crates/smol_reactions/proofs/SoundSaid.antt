@@ -19,7 +19,7 @@ use Rattle.smol_line.specs.Words.{word_at}
 use Rattle.smol_line.specs.Checks.{with_value}
 use Rattle.smol_line.specs.Numbers.{decimal_in, unsigned}
 use Rattle.smol_line.specs.SpeciesWord.{number_in}
-use Rattle.smol_line.proofs.Passing.{valued, is_there}
+use Rattle.smol_line.proofs.Passing.{valued, is_there, said_by}
 use Rattle.smol_line.proofs.Ranges.{decimal_in-within, number_in-within}
 use Rattle.smol_reactions.specs.declared.scheme.Scheme.{Scheme}
 use Rattle.smol_reactions.specs.declared.product_placement.PlacementKind.{PlacementKind}
@@ -35,7 +35,7 @@ use Rattle.smol_reactions.specs.ReactionSaid.{ReactionSaid, reacts, binds, happe
 use Rattle.smol_reactions.specs.Content.{kinds_of, reaction_made, reactions_of, schemes_of, usual_threshold}
 use Rattle.smol_reactions.specs.Changes.{fresh_product, fresh_reaction, with_chance, with_offset, with_placement, with_radius}
 use Rattle.smol_reactions.specs.Sound.{AreReactions, IsScheme}
-use Rattle.smol_reactions.specs.Statements.{binding_radius_said, product_placement_said, reaction_probability_said, reaction_said, say_of}
+use Rattle.smol_reactions.specs.Statements.{binding_radius_said, product_placement_said, reaction_probability_said, reaction_said}
 use Rattle.smol_reactions.proofs.Lists.{length-changed, All-changed, length-numbered}
 use Rattle.smol_reactions.proofs.MoreSaid.{chance_more, placement_more, radius_more, reaction_more}
 use Rattle.smol_reactions.proofs.Passing.{no_value, same_value, held}
@@ -49,11 +49,6 @@ All-changed_at P change zero (first ∷ things) thing at keeps all =
     All-cons P (change first) things (subst (λ x. P x → P (change x)) same keeps (All-head P first things all)) (All-tail P first things all)
 All-changed_at P change (suc number) (first ∷ things) thing at keeps all =
     All-cons P first (changed change number things) (All-head P first things all) (All-changed_at P change number things thing at keeps (All-tail P first things all))
-
--- the value behind what is said
-said_of : {T : Type 0} (say : T → ReactionSaid) (rule : Result T Kind) (more : ReactionSaid) → say_of say rule ≡ Ok more → (value : T) × (rule ≡ Ok value) × (say value ≡ more)
-said_of say (Ok value) more is = (value, refl, same_value (say value) more (say_of say (Ok value)) refl is)
-said_of say (Err kind) more is = no_value kind more is
 
 distance_within : (word : List ℕ) (distance : ℤ) → distance_in word ≡ Ok distance → (pos 0 ≤ℤ distance) × (unsigned_abs distance ≤ longest)
 distance_within word distance is =
@@ -273,7 +268,7 @@ reacts_keeps dims species said line scheme rule sound =
 
 pub reaction_keeps : (dims : Option ℕ) (species : List (List ℕ)) (said : List ReactionSaid) (line : Stated) (more : ReactionSaid) → reaction_said species said line ≡ Ok more → AreReactions dims (length species) said → AreReactions dims (length species) (more ∷ said)
 reaction_keeps dims species said line more is sound =
-    let by = said_of reacts (reaction_in species (names_of (reactions_of said)) line) more is in
+    let by = said_by reacts (reaction_in species (names_of (reactions_of said)) line) more is in
     subst (λ more. AreReactions dims (length species) (more ∷ said)) by.2 (reacts_keeps dims species said line by.0 by.1 sound)
 
 -- what holds where a radius is given
@@ -303,7 +298,7 @@ is_radius said line given is =
 
 pub binding_radius_keeps : (dims : Option ℕ) (count : ℕ) (said : List ReactionSaid) (line : Stated) (more : ReactionSaid) → binding_radius_said said line ≡ Ok more → AreReactions dims count said → AreReactions dims count (more ∷ said)
 binding_radius_keeps dims count said line more is sound =
-    let by = said_of (λ given. binds given.0 given.1) (binding_radius_in (reactions_of said) line) more is in
+    let by = said_by (λ given. binds given.0 given.1) (binding_radius_in (reactions_of said) line) more is in
     let given = is_radius said line by.0 by.1 in
     subst (λ more. AreReactions dims count (more ∷ said)) by.2
     (record {
@@ -342,7 +337,7 @@ is_chance said line given is =
 
 pub reaction_probability_keeps : (dims : Option ℕ) (count : ℕ) (said : List ReactionSaid) (line : Stated) (more : ReactionSaid) → reaction_probability_said said line ≡ Ok more → AreReactions dims count said → AreReactions dims count (more ∷ said)
 reaction_probability_keeps dims count said line more is sound =
-    let by = said_of (λ given. happens given.0 given.1) (reaction_probability_in (reactions_of said) line) more is in
+    let by = said_by (λ given. happens given.0 given.1) (reaction_probability_in (reactions_of said) line) more is in
     let given = is_chance said line by.0 by.1 in
     subst (λ more. AreReactions dims count (more ∷ said)) by.2
     (record {
@@ -394,10 +389,10 @@ no_dims species said line given P is = no_value BadOrder given is
 
 pub product_placement_keeps : (dims : Option ℕ) (count : ℕ) (species : List (List ℕ)) (said : List ReactionSaid) (line : Stated) (more : ReactionSaid) → product_placement_said dims species said line ≡ Ok more → AreReactions dims count said → AreReactions dims count (more ∷ said)
 product_placement_keeps (Some dims) count species said line more is sound =
-    let by = said_of (λ given. places given.0 given.1) (product_placement_in (Some dims) species (reactions_of said) (kinds_of said) line) more is in
+    let by = said_by (λ given. places given.0 given.1) (product_placement_in (Some dims) species (reactions_of said) (kinds_of said) line) more is in
     subst (λ more. AreReactions (Some dims) count (more ∷ said)) by.2 (places_keeps dims count species said line by.0 by.1 sound)
 product_placement_keeps None count species said line more is sound =
-    let by = said_of (λ given. places given.0 given.1) (product_placement_in None species (reactions_of said) (kinds_of said) line) more is in
+    let by = said_by (λ given. places given.0 given.1) (product_placement_in None species (reactions_of said) (kinds_of said) line) more is in
     no_dims species said line by.0 _ by.1
 
 -- nothing that is said is sound
