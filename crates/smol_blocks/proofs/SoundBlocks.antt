@@ -15,7 +15,7 @@ use Rattle.smol_line.specs.Axes.{AreAxes, needs_dim}
 use Rattle.smol_line.specs.Checks.{there, with_value}
 use Rattle.smol_line.specs.Names.{new_name_in}
 use Rattle.smol_line.specs.Words.{word_at}
-use Rattle.smol_line.proofs.Passing.{valued, said_by}
+use Rattle.smol_line.proofs.Passing.{valued, held, no_value, same_value, said_by}
 use Rattle.smol_blocks.specs.declared.block_statement.BlockStatement.{BlockStatement}
 use Rattle.smol_blocks.specs.declared.block_statement.BlockStatement.TheVariants.{StartSurface, InSurface, EndSurface, StartCompartment, Surface, Point, EndCompartment}
 use Rattle.smol_blocks.specs.declared.surface_statement.SurfaceStatement.{SurfaceStatement}
@@ -25,7 +25,7 @@ use Rattle.smol_blocks.specs.Compartment.{CompartmentSaid, bounded, holds, bound
 use Rattle.smol_blocks.specs.Surface.{SurfaceSaid, rects_of, sides_of, surface_line_in, surface_of}
 use Rattle.smol_blocks.proofs.SoundCompartment.{AreThese, bound_keeps, compartment_sound, compartment_wider, no_compartment_lines, point_keeps, same_dims, these}
 use Rattle.smol_blocks.proofs.SoundSurface.{StandBehind, found_panel, length-panels_from, no_surface_lines, panel_wider, panels_sound, surface_keeps}
-use Rattle.smol_blocks.proofs.SoundValues.{found_behind, held, is_below, no_value, same_value}
+use Rattle.smol_blocks.proofs.SoundValues.{found_behind, is_below}
 
 -- what holds of the open block, once it is known which one that is
 at_block : (dims : ℕ) (said : List BlockSaid) (block : Block) → block_of said ≡ block → AreBlocksOf dims said → IsBlock dims said block

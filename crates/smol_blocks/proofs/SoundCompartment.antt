@@ -19,11 +19,11 @@ use Rattle.smol_line.specs.Coordinate.{ticks_within}
 use Rattle.smol_line.specs.Length.{micros_in, most_micros}
 use Rattle.smol_line.specs.SpeciesWord.{number_in}
 use Rattle.smol_line.specs.Words.{word_at}
-use Rattle.smol_line.proofs.Passing.{valued, is_there}
+use Rattle.smol_line.proofs.Passing.{valued, held, is_there, no_value, same_value, both}
 use Rattle.smol_line.proofs.Ranges.{decimal_in-within, number_in-within}
 use Rattle.smol_blocks.specs.BlocksSound.{AreCompartmentLines}
 use Rattle.smol_blocks.specs.Compartment.{CompartmentSaid, bounded, holds, bound_in, compartment_of, end_compartment_in, point_in, point_word, points_given, surfaces_named}
-use Rattle.smol_blocks.proofs.SoundValues.{both, held, is_below, no_value, same_value}
+use Rattle.smol_blocks.proofs.SoundValues.{is_below}
 
 -- a coordinate of a point on an axis
 record IsPlacedAt (dims axis : ℕ) (x : ℤ) : Type 0 where

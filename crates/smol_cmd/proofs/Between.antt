@@ -14,9 +14,8 @@ use Rattle.smol_line.specs.Axes.{AreAxes, IsBounded, are_walled, is_walled, need
 use Rattle.smol_line.specs.Coordinate.{coordinate_between, ticks_within}
 use Rattle.smol_line.specs.Length.{micros_in}
 use Rattle.smol_line.specs.Words.{word_at}
-use Rattle.smol_line.proofs.Passing.{is_there, valued}
+use Rattle.smol_line.proofs.Passing.{both, is_there, no_value, same_value, three, valued}
 use Rattle.smol_cmd.specs.Act.{place_in}
-use Rattle.smol_cmd.proofs.Passing.{no_value, same_value}
 
 -- the two walls of an axis
 abbrev lower_wall : ℕ → Bounds → Wall
@@ -48,21 +47,17 @@ ticks_between axis bounds x ordered above below =
         by true is = inl ((Decides-int_eq x bounds.high.0).0 is, ap (λ b. if b then pos 2 *ℤ x -ℤ pos 1 else pos 2 *ℤ x +ℤ pos 1) is)
         by false is = inr (λ same. let yes = (Decides-int_eq x bounds.high.0).1 same in let no : true ≡ false = sym yes ∙ is in cc, ap (λ b. if b then pos 2 *ℤ x -ℤ pos 1 else pos 2 *ℤ x +ℤ pos 1) is)
 
-both_tests : (a b : Bool) → (a && b) ≡ true → (a ≡ true) × (b ≡ true)
-both_tests true b is = (refl, is)
-both_tests false b is = absurd cc
-
 inside_between : (axis : ℕ) (bounds : Bounds) (x t : ℤ) (test : Bool) → bounds.low.0 <ℤ bounds.high.0 → (int_le bounds.low.0 x && int_le x bounds.high.0) ≡ test → (if test then Ok (ticks_within bounds x) else Err OutsideWalls) ≡ Ok t → LiesBetween (lower_wall axis bounds) (upper_wall axis bounds) t
 inside_between axis bounds x t true ordered tests is =
-    let both = both_tests (int_le bounds.low.0 x) (int_le x bounds.high.0) tests in
-    let low = both.0 in
-    let high = both.1 in
-    subst (λ (t : ℤ). LiesBetween (lower_wall axis bounds) (upper_wall axis bounds) t) (same_value (ticks_within bounds x) t _ refl is)
+    let inside = both (int_le bounds.low.0 x) (int_le x bounds.high.0) tests in
+    let low = inside.0 in
+    let high = inside.1 in
+    subst (λ (t : ℤ). LiesBetween (lower_wall axis bounds) (upper_wall axis bounds) t) (same_value (ticks_within bounds x) t is)
     (ticks_between axis bounds x ordered (grind (arith, nat_tests)) (grind (arith, nat_tests)))
 inside_between axis bounds x t false ordered tests is = no_value OutsideWalls t is
 
 coordinate_is : (first axis : ℕ) (dims : Option ℕ) (bounds : Option Bounds) (line : Stated) (t : ℤ) → IfSome bounds (IsBounded dims axis) → read_axis coordinate_between (pos 1) first axis bounds line ≡ Ok t → IsCoordinate axis bounds t
-coordinate_is first axis dims None line t is_bounded is = sym (same_value (pos 1) t _ refl is)
+coordinate_is first axis dims None line t is_bounded is = sym (same_value (pos 1) t is)
 coordinate_is first axis dims (Some bounds) line t is_bounded is =
     let x = valued (micros_in (word_at line (first + axis))) _ t is in
     inside_between axis bounds x.0 t (int_le bounds.low.0 x.0 && int_le x.0 bounds.high.0) is_bounded.ordered refl x.2
@@ -85,12 +80,6 @@ are_between dims axes (Some x) None None u v w is_x is_y is_z some walled_x wall
 are_between dims axes (Some x) None (Some z) u v w is_x is_y is_z some walled_x walled_y walled_z used_y used_z at_x at_y at_z = let used = used_z.in_use in absurd (unwalled dims 1 (omega arith) walled_y)
 are_between dims axes (Some x) (Some y) None u v w is_x is_y is_z some walled_x walled_y walled_z used_y used_z at_x at_y at_z = rw (is_x, is_y, is_z) (at_x, (at_y, (at_z, tt)))
 are_between dims axes (Some x) (Some y) (Some z) u v w is_x is_y is_z some walled_x walled_y walled_z used_y used_z at_x at_y at_z = rw (is_x, is_y, is_z) (at_x, (at_y, (at_z, tt)))
-
-three : (a b c : Bool) → (a && b && c) ≡ true → (a ≡ true) × (b ≡ true) × (c ≡ true)
-three true true true is = (refl, refl, refl)
-three true true false is = absurd cc
-three true false c is = absurd cc
-three false b c is = absurd cc
 
 -- a statement that needs walls stands behind them
 settled_by : (axes : Axes) (dims : ℕ) → needs_walls axes ≡ Ok dims → (axes.dims ≡ Some dims) × (are_walled dims axes ≡ true)
@@ -115,8 +104,8 @@ place_is axes dims first line place sound walled is =
     let by = settled_by axes dims walled in
     let walls = three (is_walled dims 0 axes.x) (is_walled dims 1 axes.y) (is_walled dims 2 axes.z) by.1 in
     let range = rw by.0 at sound.dims in
-    let listed : x.0 ∷ y.0 ∷ z.0 ∷ [] ≡ coordinates.0 = same_value (x.0 ∷ y.0 ∷ z.0 ∷ []) coordinates.0 _ refl z.2 in
-    subst (λ (place : Place). (length place.0 ≡ 3) × AreBetween (walls_of axes) place.0) (same_value (record { 0 = coordinates.0 }) place _ refl coordinates.2)
+    let listed : x.0 ∷ y.0 ∷ z.0 ∷ [] ≡ coordinates.0 = same_value (x.0 ∷ y.0 ∷ z.0 ∷ []) coordinates.0 z.2 in
+    subst (λ (place : Place). (length place.0 ≡ 3) × AreBetween (walls_of axes) place.0) (same_value (record { 0 = coordinates.0 }) place coordinates.2)
     (subst (λ (list : List ℤ). (length list ≡ 3) × AreBetween (walls_of axes) list) listed (
       refl,
       are_between dims axes axes.x axes.y axes.z x.0 y.0 z.0 refl refl refl range.0 walls.0 walls.1 walls.2

@@ -1,5 +1,5 @@
 -- Names of output files, word by word.
-use Rattle.std.proofs.Common.{◌≡◌, ℕ, ◌+◌, ◌<◌, ◌≤◌, ◌&&◌, Bool, true, false, not, List, [], ◌∷◌, ◌++◌, length, drop, get_or, Option, None, Some, Ok, nat_le, refl, ap, ◌∙◌, sym, arith, append_assoc, subst, length-append, if◌then◌else◌}
+use Rattle.std.proofs.Common.{◌≡◌, ℕ, ◌+◌, ◌<◌, ◌≤◌, Bool, true, false, not, List, [], ◌∷◌, ◌++◌, length, drop, get_or, Option, None, Some, Ok, nat_le, refl, ap, ◌∙◌, sym, arith, append_assoc, subst, length-append, if◌then◌else◌}
 use Rattle.std.proofs.lemmas.Bool.Decides.{nat_tests}
 use Rattle.std.proofs.lemmas.List.{at_drop_more, at_drop_all, append-nil}
 use Rattle.std.specs.List.{list_all}
@@ -11,16 +11,11 @@ use Rattle.smol_types.specs.declared.fault.Kind.{Kind}
 use Rattle.smol_types.specs.declared.fault.Kind.TheVariants.{TooMany, WrongWordCount}
 use Rattle.smol_types.specs.Limits.{most_outputs}
 use Rattle.smol_line.specs.Checks.{unless}
-use Rattle.smol_line.proofs.Passing.{passed}
+use Rattle.smol_line.proofs.Passing.{passed, held, same_value, both}
 use Rattle.smol_cmd.specs.OutputFiles.{file_names, first_of, given_names, is_plain, is_standard, names_fault, output_fault, output_files_in}
-use Rattle.smol_cmd.proofs.Passing.{held, same_value}
 
 plain_is_ascii : (byte : ℕ) → is_plain byte ≡ true → byte < 128
 plain_is_ascii byte plain = grind (arith, nat_tests)
-
-both : (a b : Bool) → (a && b) ≡ true → (a ≡ true) × (b ≡ true)
-both true b is = (refl, is)
-both false b is = absurd cc
 
 all_are_ascii : (word : List ℕ) → list_all is_plain word ≡ true → IsAscii word
 all_are_ascii [] all = IsAscii-nil
@@ -76,4 +71,4 @@ files_are_few outputs line more is =
     let test = few.0 in
     let size : length outputs + length (given_names line) ≤ most_outputs = grind (arith, nat_tests) in
     let both = length-append outputs (given_names line) in
-    subst (λ (more : List (List ℕ)). length (outputs ++ more) ≤ most_outputs) (same_value (given_names line) more _ refl few.1) (omega (arith, both))
+    subst (λ (more : List (List ℕ)). length (outputs ++ more) ≤ most_outputs) (same_value (given_names line) more few.1) (omega (arith, both))

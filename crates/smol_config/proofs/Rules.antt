@@ -26,7 +26,7 @@ use Rattle.smol_line.specs.Length.{micros_in}
 use Rattle.smol_line.specs.Numbers.{count_in}
 use Rattle.smol_line.specs.SpeciesWord.{number_in, species_word_in}
 use Rattle.smol_line.specs.Words.{word_at}
-use Rattle.smol_line.proofs.Passing.{passed, valued, holds, not_yet, is_there, said_by}
+use Rattle.smol_line.proofs.Passing.{passed, valued, holds, not_yet, is_there, said_by, both, three}
 use Rattle.smol_line.proofs.Ranges.{count_in-low, count_in-high, decimal_in-within, axis_in-within, number_in-within, species_word_in-within}
 use Rattle.smol_blocks.specs.declared.block_statement.BlockStatement.{BlockStatement}
 use Rattle.smol_blocks.specs.Blocks.{BlockSaid, block_line_in, block_of, compartment_names, compartments_of, is_outside}
@@ -57,7 +57,7 @@ use Rattle.smol_config.specs.CompartmentMol.{compartment_mol_in}
 use Rattle.smol_config.specs.Commands.{commands_of, known_of, outputs_of}
 use Rattle.smol_config.specs.Reader.{statement_in, line_in}
 use Rattle.smol_config.specs.SoFar.{IsSoFar}
-use Rattle.smol_config.proofs.Kept.{passed_over_kept, axes_kept, names_kept, moves_kept, starts_kept, stops_kept, steps_kept, limits_kept, seeds_kept, walls_kept, places_kept, of_reactions_kept, of_blocks_kept, writes_kept, performs_kept, three}
+use Rattle.smol_config.proofs.Kept.{passed_over_kept, axes_kept, names_kept, moves_kept, starts_kept, stops_kept, steps_kept, limits_kept, seeds_kept, walls_kept, places_kept, of_reactions_kept, of_blocks_kept, writes_kept, performs_kept}
 
 dim_keeps : (before : List Said) (line : Stated) (dims : ℕ) → dim_in (axes_of before) line ≡ Ok dims → IsSoFar before → IsSoFar (axes dims ∷ before)
 unfolding dim_in
@@ -217,15 +217,11 @@ ticks_between axis bounds x ordered above below =
 
 inside_between : (axis : ℕ) (bounds : Bounds) (x found : ℤ) (test : Bool) → bounds.low.0 <ℤ bounds.high.0 → (int_le bounds.low.0 x && int_le x bounds.high.0) ≡ test → (if test then Ok (ticks_within bounds x) else Err kind.OutsideWalls) ≡ Ok found → LiesBetween (lower_wall axis bounds) (upper_wall axis bounds) found
 inside_between axis bounds x found true ordered tests is =
-    let both = both_tests (int_le bounds.low.0 x) (int_le x bounds.high.0) tests in
-    let low = both.0 in
-    let high = both.1 in
+    let inside = both (int_le bounds.low.0 x) (int_le x bounds.high.0) tests in
+    let low = inside.0 in
+    let high = inside.1 in
     let same : ticks_within bounds x ≡ found = cc in
     subst (LiesBetween (lower_wall axis bounds) (upper_wall axis bounds)) same (ticks_between axis bounds x ordered (grind (arith, nat_tests)) (grind (arith, nat_tests)))
-  where
-    both_tests : (a b : Bool) → (a && b) ≡ true → (a ≡ true) × (b ≡ true)
-    both_tests true b is = (refl, is)
-    both_tests false b is = absurd cc
 inside_between axis bounds x found false ordered tests is = absurd cc
 
 -- a coordinate between two walls lies there

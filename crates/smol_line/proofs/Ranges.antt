@@ -11,10 +11,7 @@ use Rattle.smol_types.specs.declared.fault.Kind.{Kind}
 use Rattle.smol_line.specs.Axis.{axis_below, axis_in, axis_named}
 use Rattle.smol_line.specs.Numbers.{count_between, count_in, decimal_between, decimal_in}
 use Rattle.smol_line.specs.SpeciesWord.{number_found, number_in, number_among, species_name, species_word_in}
-
-both : (a b : Bool) → (a && b) ≡ true → (a ≡ true) × (b ≡ true)
-both true b is = (refl, is)
-both false b is = absurd cc
+use Rattle.smol_line.proofs.Passing.{both}
 
 chosen_low : (test : Bool) (n found : ℕ) (kind : Kind) → (if test then Ok n else Err kind) ≡ Ok found → (test ≡ true) × (n ≡ found)
 chosen_low true n found kind is = (refl, cc)

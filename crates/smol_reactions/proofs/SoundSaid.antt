@@ -19,7 +19,7 @@ use Rattle.smol_line.specs.Words.{word_at}
 use Rattle.smol_line.specs.Checks.{with_value}
 use Rattle.smol_line.specs.Numbers.{decimal_in, unsigned}
 use Rattle.smol_line.specs.SpeciesWord.{number_in}
-use Rattle.smol_line.proofs.Passing.{valued, is_there, said_by}
+use Rattle.smol_line.proofs.Passing.{valued, held, is_there, no_value, same_value, said_by}
 use Rattle.smol_line.proofs.Ranges.{decimal_in-within, number_in-within}
 use Rattle.smol_reactions.specs.declared.scheme.Scheme.{Scheme}
 use Rattle.smol_reactions.specs.declared.product_placement.PlacementKind.{PlacementKind}
@@ -38,7 +38,6 @@ use Rattle.smol_reactions.specs.Sound.{AreReactions, IsScheme}
 use Rattle.smol_reactions.specs.Statements.{binding_radius_said, product_placement_said, reaction_probability_said, reaction_said}
 use Rattle.smol_reactions.proofs.Lists.{length-changed, All-changed, length-numbered}
 use Rattle.smol_reactions.proofs.MoreSaid.{chance_more, placement_more, radius_more, reaction_more}
-use Rattle.smol_reactions.proofs.Passing.{no_value, same_value, held}
 use Rattle.smol_reactions.proofs.SchemeLemmas.{given_is}
 
 -- what holds of all things holds of them behind a change of one, where it is kept there
@@ -143,7 +142,7 @@ given_offset dims axis word ticks used is =
     let high = within.1 in
     let size : unsigned_abs micros.0 ≤ longest = omega (arith, ints) in
     let twice : unsigned_abs (pos 2 *ℤ micros.0) ≡ 2 * unsigned_abs micros.0 = unsigned_abs-mul (pos 2) micros.0 in
-    subst (IsOffsetAt dims axis) (same_value (pos 2 *ℤ micros.0) ticks (in_ticks micros.0) refl micros.2)
+    subst (IsOffsetAt dims axis) (same_value (pos 2 *ℤ micros.0) ticks micros.2)
     (record {
       even = doubled_even (unsigned_abs (pos 2 *ℤ micros.0)) (unsigned_abs micros.0) twice;
       size = omega (arith, twice, size);
@@ -155,7 +154,7 @@ no_offset_at dims axis ticks is = subst (IsOffsetAt dims axis) is (record { even
 
 chosen_offset : (used : Bool) (dims axis : ℕ) (word : List ℕ) (ticks : ℤ) → used ≡ nat_lt axis dims → (if used then with_value (decimal_in 6 (negsuc 999999999) (pos longest) word) in_ticks else Ok (pos 0)) ≡ Ok ticks → IsOffsetAt dims axis ticks
 chosen_offset true dims axis word ticks used is = given_offset dims axis word ticks (grind (arith, nat_tests)) is
-chosen_offset false dims axis word ticks used is = no_offset_at dims axis ticks (same_value (pos 0) ticks (Ok (pos 0)) refl is)
+chosen_offset false dims axis word ticks used is = no_offset_at dims axis ticks (same_value (pos 0) ticks is)
 
 offset_at_sound : (dims axis : ℕ) (line : Stated) (ticks : ℤ) → offset_at dims axis line ≡ Ok ticks → IsOffsetAt dims axis ticks
 offset_at_sound dims axis line ticks is = chosen_offset (nat_lt axis dims) dims axis (word_at line (4 + axis)) ticks refl is
@@ -176,7 +175,7 @@ offset_sound dims line offset is =
     let a = offset_at_sound dims 0 line x.0 x.1 in
     let b = offset_at_sound dims 1 line y.0 y.1 in
     let c = offset_at_sound dims 2 line z.0 z.1 in
-    subst (IsOffset dims) (same_value (record { 0 = x.0 ∷ y.0 ∷ z.0 ∷ [] }) offset _ refl z.2)
+    subst (IsOffset dims) (same_value (record { 0 = x.0 ∷ y.0 ∷ z.0 ∷ [] }) offset z.2)
     (record {
       axes = refl;
       even = (a.even, b.even, c.even);
@@ -235,14 +234,14 @@ unfolding placement_in
 placement_keeps kind.Offset dims count species line given reaction is sound =
     let product = valued (product_in species (species_made reaction.products) (word_at line 3)) _ given is in
     let offset = valued (offset_in dims line) _ given product.2 in
-    subst (λ given. IsReaction dims count (with_placement given reaction)) (same_value (placement.Offset product.0 offset.0) given _ refl offset.2)
+    subst (λ given. IsReaction dims count (with_placement given reaction)) (same_value (placement.Offset product.0 offset.0) given offset.2)
     (offset_keeps dims count product.0 offset.0 reaction (offset_sound dims line offset.0 offset.1) sound)
 placement_keeps kind.Unbindrad dims count species line given reaction is sound =
     let two = held (length (species_made reaction.products) == 2) BadReaction [] _ given is in
     let distance = valued (distance_in (word_at line 3)) _ given two.1 in
     let many : length (species_made reaction.products) ≡ length reaction.products = length-map reaction.products (λ (product : Product). product.species) in
     let count_is : length reaction.products ≡ 2 = let test = two.0 in grind (arith, nat_tests) in
-    subst (λ given. IsReaction dims count (with_placement given reaction)) (same_value (placement.Unbind distance.0) given _ refl distance.2)
+    subst (λ given. IsReaction dims count (with_placement given reaction)) (same_value (placement.Unbind distance.0) given distance.2)
     (unbind_keeps dims count distance.0 reaction count_is (distance_within (word_at line 3) distance.0 distance.1) sound)
 
 names_many : (said : List ReactionSaid) → length (names_of (reactions_of said)) ≡ length (schemes_of said)
@@ -287,7 +286,7 @@ is_radius said line given is =
     let reaction = valued (reaction_at (reactions_of said) number.0) _ given number.2 in
     let two = held (reaction.0.order == 2) BadReaction [] _ given reaction.2 in
     let radius = valued (distance_in (word_at line 2)) _ given two.1 in
-    subst (λ (given : ℕ × Micro). IsRadius said given.0 given.1) (same_value (number.0, record { 0 = radius.0 }) given _ refl radius.2)
+    subst (λ (given : ℕ × Micro). IsRadius said given.0 given.1) (same_value (number.0, record { 0 = radius.0 }) given radius.2)
     (record {
       below = number_behind said (word_at line 1) number.0 number.1;
       reaction = reaction.0;
@@ -314,7 +313,7 @@ unsigned_within most (Ok x) n within is =
     let range = within x refl in
     let low = range.0 in
     let high = range.1 in
-    let same : unsigned_abs x ≡ n = same_value (unsigned_abs x) n (unsigned (Ok x)) refl is in
+    let same : unsigned_abs x ≡ n = same_value (unsigned_abs x) n is in
     omega (arith, ints, same)
 unsigned_within most (Err kind) n within is = no_value kind n is
 
@@ -332,7 +331,7 @@ is_chance said line given is =
     let words = held (length (words_of line) == 3) WrongWordCount [] _ given is in
     let number = valued (number_in (names_of (reactions_of said)) (word_at line 1)) _ given words.1 in
     let chance = valued (chance_in (word_at line 2)) _ given number.2 in
-    subst (λ (given : ℕ × ℕ). IsChance said given.0 given.1) (same_value (number.0, chance.0) given _ refl chance.2)
+    subst (λ (given : ℕ × ℕ). IsChance said given.0 given.1) (same_value (number.0, chance.0) given chance.2)
     (record { below = number_behind said (word_at line 1) number.0 number.1; within = chance_within (word_at line 2) chance.0 chance.1 })
 
 pub reaction_probability_keeps : (dims : Option ℕ) (count : ℕ) (said : List ReactionSaid) (line : Stated) (more : ReactionSaid) → reaction_probability_said said line ≡ Ok more → AreReactions dims count said → AreReactions dims count (more ∷ said)
@@ -364,7 +363,7 @@ placed_in dims count species said line given is =
     let reaction = valued (reaction_at (reactions_of said) number.0) _ given number.2 in
     let taken = held (takes (slice_index_or (kinds_of said) number.0 None) wanted.0) BadReaction [] _ given reaction.2 in
     let placement = valued (placement_in wanted.0 dims species (species_made reaction.0.products) line) _ given taken.1 in
-    subst (λ (given : ℕ × ProductPlacement). IsPlaced dims count said given.0 given.1) (same_value (number.0, placement.0) given _ refl placement.2)
+    subst (λ (given : ℕ × ProductPlacement). IsPlaced dims count said given.0 given.1) (same_value (number.0, placement.0) given placement.2)
     (record {
       below = number_behind said (word_at line 1) number.0 number.1;
       reaction = reaction.0;
