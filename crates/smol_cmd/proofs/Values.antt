@@ -1,5 +1,5 @@
 -- Words of a command with a value: what the value's range is.
-use Rattle.std.proofs.Common.{◌≡◌, ◌+◌, ◌<◌, ◌≤◌, ℕ, zero, suc, ℤ, pos, ◌<ℤ◌, ◌≤ℤ◌, Bool, true, false, nat_le, nat_lt, int_lt, List, [], length, Option, None, Some, Result, Ok, Err, unsigned_abs, if◌then◌else◌, codes, position, refl, arith, subst}
+use Rattle.std.proofs.Common.{◌≡◌, ◌+◌, ◌<◌, ◌≤◌, ℕ, zero, suc, ℤ, pos, ◌<ℤ◌, Bool, true, false, nat_le, nat_lt, int_lt, List, [], length, Option, None, Some, Result, Ok, Err, unsigned_abs, if◌then◌else◌, codes, position, refl, arith, subst}
 use Rattle.std.specs.List.{range_with_len}
 use Rattle.std.specs.Str.{bytes_eq}
 use Rattle.std.proofs.lemmas.Bool.Decides.{nat_tests}
@@ -14,11 +14,11 @@ use Rattle.smol_types.specs.declared.fault.Kind.TheVariants.{BadTiming, UnknownO
 use Rattle.smol_types.specs.Commands.{AreSpecies, IsOutlet, IsWhen}
 use Rattle.smol_types.specs.Limits.{certain, latest, most_steps}
 use Rattle.smol_line.specs.declared.species_word.Chosen.{Chosen}
-use Rattle.smol_line.specs.Numbers.{decimal_in, unsigned}
+use Rattle.smol_line.specs.Numbers.{unsigned_in}
 use Rattle.smol_line.specs.SpeciesWord.{chosen_in, one_chosen, species_word_in}
 use Rattle.smol_line.specs.Words.{word_at}
 use Rattle.smol_line.proofs.Passing.{valued, held, no_value, same_value}
-use Rattle.smol_line.proofs.Ranges.{count_in-high, decimal_in-within, species_word_in-within}
+use Rattle.smol_line.proofs.Ranges.{count_in-high, decimal_in-within, species_word_in-within, unsigned_in-within}
 use Rattle.smol_cmd.specs.declared.timing.Timing.{Timing}
 use Rattle.smol_cmd.specs.declared.timing.Timing.TheVariants as timing
 use Rattle.smol_cmd.specs.Times.{earliest, interval_in, time_in}
@@ -134,17 +134,8 @@ outlet_is outputs word out is = by (bytes_eq word (codes "stdout")) (bytes_eq wo
     by false true is = subst (IsOutlet (length outputs)) (same_value 1 out is) (omega arith)
     by false false is = file_is outputs word (position (bytes_eq word) outputs) out refl is
 
--- a decimal from 0 to the most is no more than that
-unsigned_within : (most : ℕ) (value : Result ℤ Kind) (n : ℕ) → ((x : ℤ) → value ≡ Ok x → (pos 0 ≤ℤ x) × (x ≤ℤ pos most)) → unsigned value ≡ Ok n → n ≤ most
-unsigned_within most (Ok x) n within is =
-    let range = within x refl in
-    let low = range.0 in
-    let high = range.1 in
-    subst (λ (n : ℕ). n ≤ most) (same_value (unsigned_abs x) n is) (omega (arith, ints))
-unsigned_within most (Err kind) n within is = no_value kind n is
-
 pub probability_is : (word : List ℕ) (p : Threshold) → probability_in word ≡ Ok p → p.0 ≤ certain
 probability_is word p is =
-    let found = valued (unsigned (decimal_in 9 (pos 0) (pos whole) word)) _ p is in
-    let fits = unsigned_within whole (decimal_in 9 (pos 0) (pos whole) word) found.0 (decimal_in-within 9 (pos 0) (pos whole) word) found.1 in
+    let found = valued (unsigned_in 9 whole word) _ p is in
+    let fits = unsigned_in-within 9 whole word found.0 found.1 in
     subst (λ (p : Threshold). p.0 ≤ certain) (same_value _ p found.2) (omega arith)

@@ -1,5 +1,5 @@
 -- What lines without a fault say of reactions is sound.
-use Rattle.std.proofs.Common.{◌≡◌, ℕ, zero, suc, ℤ, pos, negsuc, ◌+◌, ◌*◌, ◌%◌, ◌<◌, ◌≤◌, ◌≤ℤ◌, ◌*ℤ◌, ◌==◌, Bool, true, false, nat_le, nat_lt, List, [], ◌∷◌, ◌++◌, length, map, Option, None, Some, Result, Ok, Err, All, unsigned_abs, slice_get, slice_index_or, if◌then◌else◌, refl, sym, ◌∙◌, arith, subst, length-append}
+use Rattle.std.proofs.Common.{◌≡◌, ℕ, zero, suc, ℤ, pos, negsuc, ◌+◌, ◌*◌, ◌%◌, ◌<◌, ◌≤◌, ◌≤ℤ◌, ◌*ℤ◌, ◌==◌, Bool, true, false, nat_le, nat_lt, List, [], ◌∷◌, ◌++◌, length, map, Option, None, Some, Result, Ok, All, unsigned_abs, slice_get, slice_index_or, if◌then◌else◌, refl, sym, ◌∙◌, arith, subst, length-append}
 use Rattle.std.proofs.lemmas.Bool.Decides.{nat_tests}
 use Rattle.std.proofs.lemmas.Int.{ints, unsigned_abs-mul}
 use Rattle.std.proofs.lemmas.List.{length-map}
@@ -17,10 +17,10 @@ use Rattle.smol_types.specs.Limits.{longest, certain}
 use Rattle.smol_types.specs.Reactions.{IsPlacement, IsProduct, IsReaction}
 use Rattle.smol_line.specs.Words.{word_at}
 use Rattle.smol_line.specs.Checks.{with_value}
-use Rattle.smol_line.specs.Numbers.{decimal_in, unsigned}
+use Rattle.smol_line.specs.Numbers.{decimal_in}
 use Rattle.smol_line.specs.SpeciesWord.{number_in}
 use Rattle.smol_line.proofs.Passing.{valued, held, is_there, no_value, same_value, said_by}
-use Rattle.smol_line.proofs.Ranges.{decimal_in-within, number_in-within}
+use Rattle.smol_line.proofs.Ranges.{decimal_in-within, number_in-within, unsigned_in-within}
 use Rattle.smol_reactions.specs.declared.scheme.Scheme.{Scheme}
 use Rattle.smol_reactions.specs.declared.product_placement.PlacementKind.{PlacementKind}
 use Rattle.smol_reactions.specs.declared.product_placement.PlacementKind.TheVariants as kind
@@ -308,18 +308,8 @@ binding_radius_keeps dims count said line more is sound =
           (radius_sound axes count by.0.1 given.reaction given.two given.within) (sound.all axes fits));
     })
 
-unsigned_within : (most : ℕ) (value : Result ℤ Kind) (n : ℕ) → ((x : ℤ) → value ≡ Ok x → (pos 0 ≤ℤ x) × (x ≤ℤ pos most)) → unsigned value ≡ Ok n → n ≤ most
-unsigned_within most (Ok x) n within is =
-    let range = within x refl in
-    let low = range.0 in
-    let high = range.1 in
-    let same : unsigned_abs x ≡ n = same_value (unsigned_abs x) n is in
-    omega (arith, ints, same)
-unsigned_within most (Err kind) n within is = no_value kind n is
-
 chance_within : (word : List ℕ) (chance : ℕ) → chance_in word ≡ Ok chance → chance ≤ whole_chance
-chance_within word chance is =
-    unsigned_within whole_chance (decimal_in 9 (pos 0) (pos whole_chance) word) chance (decimal_in-within 9 (pos 0) (pos whole_chance) word) is
+chance_within word chance is = unsigned_in-within 9 whole_chance word chance is
 
 record IsChance (said : List ReactionSaid) (number chance : ℕ) : Type 0 where
   below : number < length (schemes_of said)
