@@ -21,6 +21,7 @@ use Rattle.smol_line.specs.Axis.{axis_in}
 use Rattle.smol_line.specs.Checks.{unless, once, word_count, passing, with_value}
 use Rattle.smol_line.specs.Coordinate.{coordinate_between}
 use Rattle.smol_line.specs.Length.{micros_in}
+use Rattle.smol_line.specs.Names.{names_fault}
 use Rattle.smol_line.specs.Numbers.{count_in}
 use Rattle.smol_line.specs.SpeciesWord.{number_in, species_word_in}
 use Rattle.smol_line.specs.Words.{word_at}
@@ -43,7 +44,7 @@ use Rattle.smol_config.specs.Said.{Said, passed_over, axes, names, moves, starts
 use Rattle.smol_config.specs.Statement.{may_stand, statement_of}
 use Rattle.smol_config.specs.Axes.{axes_of, dims_of}
 use Rattle.smol_config.specs.Dim.{dim_in}
-use Rattle.smol_config.specs.Species.{species_of, names_fault, further_words, species_in}
+use Rattle.smol_config.specs.Species.{species_of, further_words, species_in, species_fault}
 use Rattle.smol_config.specs.Motion.{difc_in, difstep_in}
 use Rattle.smol_config.specs.Times.{nanos_in, start_of, stop_of, step_of, time_in, time_step_in}
 use Rattle.smol_config.specs.MaxMol.{max_mol_of, max_mol_in}
@@ -70,7 +71,7 @@ species_keeps : (before : List Said) (line : Stated) (more : List (List ℕ)) �
 unfolding species_in
 species_keeps before line more is h =
     let enough = unless (nat_le 2 (length (words_of line))) kind.WrongWordCount in
-    let new = names_fault (species_of before) (further_words line) in
+    let new = names_fault species_fault (species_of before) (further_words line) in
     let few = unless (nat_le (length (species_of before) + length (further_words line)) 256) kind.TooMany in
     let value : Result (List (List ℕ)) Kind = Ok (further_words line) in
     let a = passed enough (new ∷ few ∷ []) value more is in
