@@ -14,17 +14,17 @@ use Rattle.smol_types.specs.declared.fault.Kind.TheVariants.{BadTiming, UnknownO
 use Rattle.smol_types.specs.Commands.{AreSpecies, IsOutlet, IsWhen}
 use Rattle.smol_types.specs.Limits.{certain, latest, most_steps}
 use Rattle.smol_line.specs.declared.species_word.Chosen.{Chosen}
-use Rattle.smol_line.specs.Numbers.{unsigned_in}
+use Rattle.smol_line.specs.Probability.{chance_in, threshold_of}
 use Rattle.smol_line.specs.SpeciesWord.{chosen_in, one_chosen, species_word_in}
 use Rattle.smol_line.specs.Words.{word_at}
 use Rattle.smol_line.proofs.Passing.{valued, held, no_value, same_value}
-use Rattle.smol_line.proofs.Ranges.{count_in-high, decimal_in-within, species_word_in-within, unsigned_in-within}
+use Rattle.smol_line.proofs.Ranges.{count_in-high, decimal_in-within, species_word_in-within, chance_in-within, threshold_of-within}
 use Rattle.smol_cmd.specs.declared.timing.Timing.{Timing}
 use Rattle.smol_cmd.specs.declared.timing.Timing.TheVariants as timing
 use Rattle.smol_cmd.specs.Times.{earliest, interval_in, time_in}
 use Rattle.smol_cmd.specs.When.{due_in, step_in, stride_in, timing_in, timing_words, when_in}
 use Rattle.smol_cmd.specs.Who.{numbers_of, who_in}
-use Rattle.smol_cmd.specs.Probability.{probability_in, whole}
+use Rattle.smol_cmd.specs.Probability.{probability_in}
 use Rattle.smol_cmd.specs.Outlet.{file_outlet, outlet_in}
 
 -- a time is no further from 0 than there may be
@@ -136,6 +136,6 @@ outlet_is outputs word out is = by (bytes_eq word (codes "stdout")) (bytes_eq wo
 
 pub probability_is : (word : List ℕ) (p : Threshold) → probability_in word ≡ Ok p → p.0 ≤ certain
 probability_is word p is =
-    let found = valued (unsigned_in 9 whole word) _ p is in
-    let fits = unsigned_in-within 9 whole word found.0 found.1 in
-    subst (λ (p : Threshold). p.0 ≤ certain) (same_value _ p found.2) (omega arith)
+    let chance = valued (chance_in word) _ p is in
+    subst (λ (p : Threshold). p.0 ≤ certain) (same_value (threshold_of chance.0) p chance.2)
+    (threshold_of-within chance.0 (chance_in-within word chance.0 chance.1))

@@ -9,8 +9,10 @@ use Rattle.smol_num.specs.declared.num_fault.NumFault.TheVariants.{NotNumber, To
 use Rattle.smol_num.specs.Digits.{is_count, digits_value, count_of}
 use Rattle.smol_num.specs.Decimal.{decimal_of}
 use Rattle.smol_types.specs.declared.fault.Kind.{Kind}
+use Rattle.smol_types.specs.Limits.{certain}
 use Rattle.smol_line.specs.Axis.{axis_below, axis_in, axis_named}
 use Rattle.smol_line.specs.Numbers.{count_between, count_in, decimal_between, decimal_in, unsigned, unsigned_in}
+use Rattle.smol_line.specs.Probability.{chance_in, threshold_of, whole_chance}
 use Rattle.smol_line.specs.SpeciesWord.{number_found, number_in, number_among, species_name, species_word_in}
 use Rattle.smol_line.proofs.Passing.{both}
 
@@ -67,9 +69,17 @@ unsigned-within most (Ok x) found within is =
     omega (arith, ints, same)
 unsigned-within most (Err kind) found within is = absurd cc
 
-pub unsigned_in-within : (places most : ℕ) (word : List ℕ) (found : ℕ) → unsigned_in places most word ≡ Ok found → found ≤ most
+unsigned_in-within : (places most : ℕ) (word : List ℕ) (found : ℕ) → unsigned_in places most word ≡ Ok found → found ≤ most
 unsigned_in-within places most word found is =
     unsigned-within most (decimal_in places (pos 0) (pos most) word) found (decimal_in-within places (pos 0) (pos most) word) is
+
+-- a probability is one whole at most
+pub chance_in-within : (word : List ℕ) (chance : ℕ) → chance_in word ≡ Ok chance → chance ≤ whole_chance
+chance_in-within word chance is = unsigned_in-within 9 whole_chance word chance is
+
+-- and its threshold at most the one that is certain
+pub threshold_of-within : (chance : ℕ) → chance ≤ whole_chance → (threshold_of chance).0 ≤ certain
+threshold_of-within chance within = omega (arith, within)
 
 -- an axis in use is below the number of axes
 axis_below-within : (dims : ℕ) (named : Option ℕ) (axis : ℕ) → axis_below dims named ≡ Ok axis → axis < dims

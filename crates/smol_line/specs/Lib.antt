@@ -2,6 +2,7 @@ pub mod Fault
 pub mod Words
 pub mod Checks
 pub mod Numbers
+pub mod Probability
 pub mod Names
 pub mod SpeciesWord
 pub mod Axis

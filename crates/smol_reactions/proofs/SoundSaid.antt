@@ -19,8 +19,9 @@ use Rattle.smol_line.specs.Words.{word_at}
 use Rattle.smol_line.specs.Checks.{with_value}
 use Rattle.smol_line.specs.Numbers.{decimal_in}
 use Rattle.smol_line.specs.SpeciesWord.{number_in}
+use Rattle.smol_line.specs.Probability.{chance_in, whole_chance}
 use Rattle.smol_line.proofs.Passing.{valued, held, is_there, no_value, same_value, said_by}
-use Rattle.smol_line.proofs.Ranges.{decimal_in-within, number_in-within, unsigned_in-within}
+use Rattle.smol_line.proofs.Ranges.{decimal_in-within, number_in-within, chance_in-within, threshold_of-within}
 use Rattle.smol_reactions.specs.declared.scheme.Scheme.{Scheme}
 use Rattle.smol_reactions.specs.declared.product_placement.PlacementKind.{PlacementKind}
 use Rattle.smol_reactions.specs.declared.product_placement.PlacementKind.TheVariants as kind
@@ -29,7 +30,7 @@ use Rattle.smol_reactions.specs.declared.product_placement.ProductPlacement.TheV
 use Rattle.smol_reactions.specs.Numbered.{changed}
 use Rattle.smol_reactions.specs.Reaction.{names_of, reaction_in}
 use Rattle.smol_reactions.specs.BindingRadius.{binding_radius_in, distance_in, reaction_at}
-use Rattle.smol_reactions.specs.ReactionProbability.{chance_in, reaction_probability_in, threshold_of, whole_chance}
+use Rattle.smol_reactions.specs.ReactionProbability.{reaction_probability_in}
 use Rattle.smol_reactions.specs.ProductPlacement.{kind_in, offset_at, offset_in, placement_in, product_in, product_placement_in, species_made, takes, words_for}
 use Rattle.smol_reactions.specs.ReactionSaid.{ReactionSaid, reacts, binds, happens, places}
 use Rattle.smol_reactions.specs.Content.{kinds_of, reaction_made, reactions_of, schemes_of, usual_threshold}
@@ -72,9 +73,6 @@ radius_sound axes count radius reaction two within sound = record {
   placement = sound.placement;
 }
 
-pub threshold_fits : (chance : ℕ) → chance ≤ whole_chance → (threshold_of chance).0 ≤ certain
-threshold_fits chance fits = omega arith
-
 chance_sound : (axes count chance : ℕ) → chance ≤ whole_chance → (reaction : Reaction) → IsReaction axes count reaction → IsReaction axes count (with_chance chance reaction)
 chance_sound axes count chance fits reaction sound = record {
   order_above = sound.order_above;
@@ -86,7 +84,7 @@ chance_sound axes count chance fits reaction sound = record {
   radius_order = sound.radius_order;
   radius_above = sound.radius_above;
   radius_below = sound.radius_below;
-  threshold = threshold_fits chance fits;
+  threshold = threshold_of-within chance fits;
   placement = sound.placement;
 }
 
@@ -308,9 +306,6 @@ binding_radius_keeps dims count said line more is sound =
           (radius_sound axes count by.0.1 given.reaction given.two given.within) (sound.all axes fits));
     })
 
-chance_within : (word : List ℕ) (chance : ℕ) → chance_in word ≡ Ok chance → chance ≤ whole_chance
-chance_within word chance is = unsigned_in-within 9 whole_chance word chance is
-
 record IsChance (said : List ReactionSaid) (number chance : ℕ) : Type 0 where
   below : number < length (schemes_of said)
   within : chance ≤ whole_chance
@@ -322,7 +317,7 @@ is_chance said line given is =
     let number = valued (number_in (names_of (reactions_of said)) (word_at line 1)) _ given words.1 in
     let chance = valued (chance_in (word_at line 2)) _ given number.2 in
     subst (λ (given : ℕ × ℕ). IsChance said given.0 given.1) (same_value (number.0, chance.0) given chance.2)
-    (record { below = number_behind said (word_at line 1) number.0 number.1; within = chance_within (word_at line 2) chance.0 chance.1 })
+    (record { below = number_behind said (word_at line 1) number.0 number.1; within = chance_in-within (word_at line 2) chance.0 chance.1 })
 
 pub reaction_probability_keeps : (dims : Option ℕ) (count : ℕ) (said : List ReactionSaid) (line : Stated) (more : ReactionSaid) → reaction_probability_said said line ≡ Ok more → AreReactions dims count said → AreReactions dims count (more ∷ said)
 reaction_probability_keeps dims count said line more is sound =
