@@ -15,6 +15,7 @@ use Rattle.smol_types.specs.Limits.{most_surfaces, most_compartments}
 use Rattle.smol_line.specs.declared.axes.Axes.{Axes}
 use Rattle.smol_line.specs.Axes.{needs_dim}
 use Rattle.smol_line.specs.Checks.{unless, word_count, passing, with_value}
+use Rattle.smol_line.specs.LookingBack.{say}
 use Rattle.smol_blocks.specs.declared.blocks.Blocks.{Blocks}
 use Rattle.smol_blocks.specs.declared.blocks.OpenBlock.{OpenBlock}
 use Rattle.smol_blocks.specs.declared.blocks.OpenBlock.TheVariants as open_block
@@ -24,7 +25,7 @@ use Rattle.smol_blocks.specs.Surface.{SurfaceSaid, Known, acting_on, actions_fro
 use Rattle.smol_blocks.specs.SurfaceTable.{IsReady, Holds as HoldsSurface, known_of}
 use Rattle.smol_blocks.specs.Compartment.{CompartmentSaid, bounded, holds, bound_in, point_in, end_compartment_in, compartment_of}
 use Rattle.smol_blocks.specs.BlockName.{block_name_in}
-use Rattle.smol_blocks.specs.Blocks.{Block, no_block, in_surface, in_compartment, BlockSaid, opens_surface, of_surface, closes_surface, opens_compartment, of_compartment, closes_compartment, with_surface, with_compartment, block_of, is_outside, surface_names, surfaces_of, panels_of, panels_in, compartment_names, known_to, start_surface_in, start_compartment_in, say_surface, in_surface_in, end_surface_in, bound_said, point_said, end_compartment_said}
+use Rattle.smol_blocks.specs.Blocks.{Block, no_block, in_surface, in_compartment, BlockSaid, opens_surface, of_surface, closes_surface, opens_compartment, of_compartment, closes_compartment, with_surface, with_compartment, block_of, is_outside, surface_names, surfaces_of, panels_of, panels_in, compartment_names, known_to, start_surface_in, start_compartment_in, in_surface_in, end_surface_in, bound_said, point_said, end_compartment_said}
 use Rattle.smol_blocks.specs.BlocksTable.{HoldsBlock, Holds, IsBlockKept}
 
 -- what is said by a name that passes its tests
@@ -82,9 +83,9 @@ surface_more old said statement axes species line opened dims others table new i
     let known : others ≡ length (panels_of said) = count ∙ ap length h.panels in (
       of_surface more.0,
       ap (in_surface_in statement axes species said line) opened_block.1
-          ∙ ap (λ r. with_value r (λ d. say_surface (surface_line_in statement (known_to d species said) opened_block.0 line))) (sym dim)
-          ∙ ap (λ n. say_surface (surface_line_in statement (known_of dims species n) opened_block.0 line)) (sym known)
-          ∙ ap say_surface more.1,
+          ∙ ap (λ r. with_value r (λ d. say of_surface (surface_line_in statement (known_to d species said) opened_block.0 line))) (sym dim)
+          ∙ ap (λ n. say of_surface (surface_line_in statement (known_of dims species n) opened_block.0 line)) (sym known)
+          ∙ ap (say of_surface) more.1,
       record {
         surface_names = h.surface_names;
         surfaces = h.surfaces;

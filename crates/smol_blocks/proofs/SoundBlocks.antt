@@ -1,5 +1,5 @@
 -- What lines without a fault say of blocks is sound.
-use Rattle.std.proofs.Common.{◌≡◌, ◌∙◌, ℕ, ◌+◌, ◌<◌, ◌≤◌, ◌==◌, true, nat_lt, List, [], ◌∷◌, ◌++◌, length, Option, None, Some, Result, Ok, Err, refl, sym, arith, subst, length-append}
+use Rattle.std.proofs.Common.{◌≡◌, ◌∙◌, ℕ, ◌+◌, ◌<◌, ◌≤◌, ◌==◌, true, nat_lt, List, [], ◌∷◌, ◌++◌, length, Option, None, Some, Result, Ok, refl, sym, arith, subst, length-append}
 use Rattle.std.proofs.lemmas.List.Elements.{All-append, All-nil, All-push, All-weaker}
 use Rattle.smol_text.specs.Reading.{Stated, words_of}
 use Rattle.smol_types.specs.declared.compartment.Compartment.{Compartment}
@@ -15,17 +15,17 @@ use Rattle.smol_line.specs.Axes.{AreAxes, needs_dim}
 use Rattle.smol_line.specs.Checks.{there, with_value}
 use Rattle.smol_line.specs.Names.{new_name_in}
 use Rattle.smol_line.specs.Words.{word_at}
-use Rattle.smol_line.proofs.Passing.{valued}
+use Rattle.smol_line.proofs.Passing.{valued, held, no_value, same_value, said_by}
 use Rattle.smol_blocks.specs.declared.block_statement.BlockStatement.{BlockStatement}
 use Rattle.smol_blocks.specs.declared.block_statement.BlockStatement.TheVariants.{StartSurface, InSurface, EndSurface, StartCompartment, Surface, Point, EndCompartment}
 use Rattle.smol_blocks.specs.declared.surface_statement.SurfaceStatement.{SurfaceStatement}
-use Rattle.smol_blocks.specs.Blocks.{Block, no_block, in_surface, in_compartment, BlockSaid, opens_surface, of_surface, closes_surface, opens_compartment, of_compartment, closes_compartment, block_line_in, block_of, bound_said, compartment_names, compartments_of, end_compartment_said, end_surface_in, in_surface_in, is_outside, known_to, panels_from, panels_in, panels_of, point_said, say_surface, start_compartment_in, start_surface_in, surface_names, surfaces_of, with_compartment, with_surface}
+use Rattle.smol_blocks.specs.Blocks.{Block, no_block, in_surface, in_compartment, BlockSaid, opens_surface, of_surface, closes_surface, opens_compartment, of_compartment, closes_compartment, block_line_in, block_of, bound_said, compartment_names, compartments_of, end_compartment_said, end_surface_in, in_surface_in, is_outside, known_to, panels_from, panels_in, panels_of, point_said, start_compartment_in, start_surface_in, surface_names, surfaces_of, with_compartment, with_surface}
 use Rattle.smol_blocks.specs.BlocksSound.{AreBlocks, AreBlocksOf, AreCompartmentLines, AreSurfaceLines, IsBlock}
 use Rattle.smol_blocks.specs.Compartment.{CompartmentSaid, bounded, holds, bound_in, end_compartment_in, point_in}
 use Rattle.smol_blocks.specs.Surface.{SurfaceSaid, rects_of, sides_of, surface_line_in, surface_of}
 use Rattle.smol_blocks.proofs.SoundCompartment.{AreThese, bound_keeps, compartment_sound, compartment_wider, no_compartment_lines, point_keeps, same_dims, these}
 use Rattle.smol_blocks.proofs.SoundSurface.{StandBehind, found_panel, length-panels_from, no_surface_lines, panel_wider, panels_sound, surface_keeps}
-use Rattle.smol_blocks.proofs.SoundValues.{found_behind, held, is_below, no_value, same_value}
+use Rattle.smol_blocks.proofs.SoundValues.{found_behind, is_below}
 
 -- what holds of the open block, once it is known which one that is
 at_block : (dims : ℕ) (said : List BlockSaid) (block : Block) → block_of said ≡ block → AreBlocksOf dims said → IsBlock dims said block
@@ -104,11 +104,6 @@ of_surface_keeps dims opened lines new said open_is lines_sound sound =
       block = subst (λ (block : Block). IsBlock dims (of_surface new ∷ said) (with_surface new block)) (sym open_is) (before.0, before.1, lines_sound);
     }
 
--- the line behind what is said of a surface
-surface_said : (rule : Result SurfaceSaid Kind) (more : BlockSaid) → say_surface rule ≡ Ok more → (said : SurfaceSaid) × (rule ≡ Ok said) × (of_surface said ≡ more)
-surface_said (Ok said) more is = (said, refl, same_value (of_surface said) more is)
-surface_said (Err kind) more is = no_value kind more is
-
 -- and so a line stands in its block
 in_surface_keeps : (given : SurfaceStatement) (axes : Axes) (dims : ℕ) (species : List (List ℕ)) (said : List BlockSaid) (line : Stated) (more : BlockSaid) (block : Block) → AreThese axes dims → block_of said ≡ block → in_surface_in given axes species said line block ≡ Ok more → AreBlocksOf dims said → AreBlocksOf dims (more ∷ said)
 in_surface_keeps given axes dims species said line more no_block known open_is is sound = no_value BadOrder more is
@@ -116,7 +111,7 @@ in_surface_keeps given axes dims species said line more (in_compartment opened l
 in_surface_keeps given axes dims species said line more (in_surface opened lines) known open_is is sound =
     let count = valued (needs_dim axes) _ more is in
     let same = same_dims axes dims count.0 known.count count.1 in
-    let by = surface_said (surface_line_in given (known_to count.0 species said) lines line) more count.2 in
+    let by = said_by of_surface (surface_line_in given (known_to count.0 species said) lines line) more count.2 in
     let rule = subst (λ (count : ℕ). surface_line_in given (known_to count species said) lines line ≡ Ok by.0) (sym same) by.1 in
     let before = at_block dims said (in_surface opened lines) open_is sound in
     subst (λ (more : BlockSaid). AreBlocksOf dims (more ∷ said)) by.2

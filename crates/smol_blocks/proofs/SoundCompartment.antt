@@ -1,5 +1,5 @@
 -- What lines without a fault say of a compartment is sound, and so is the compartment that comes of them.
-use Rattle.std.proofs.Common.{◌≡◌, ◌∙◌, ℕ, zero, suc, ℤ, pos, negsuc, ◌+◌, ◌<◌, ◌≤◌, ◌%◌, ◌≤ℤ◌, ◌+ℤ◌, ◌-ℤ◌, ◌*ℤ◌, ◌==◌, ◌||◌, Bool, true, false, nat_le, nat_lt, List, [], ◌∷◌, ◌++◌, length, Option, None, Some, IfSome, Ok, Err, unsigned_abs, if◌then◌else◌, refl, sym, arith, subst, length-append}
+use Rattle.std.proofs.Common.{◌≡◌, ℕ, zero, suc, ℤ, pos, negsuc, ◌+◌, ◌<◌, ◌≤◌, ◌%◌, ◌≤ℤ◌, ◌+ℤ◌, ◌-ℤ◌, ◌*ℤ◌, ◌==◌, ◌||◌, Bool, true, false, nat_le, nat_lt, List, [], ◌∷◌, ◌++◌, length, Option, None, Some, IfSome, Ok, unsigned_abs, if◌then◌else◌, refl, sym, arith, subst, length-append}
 use Rattle.std.specs.Ordering.{int_eq}
 use Rattle.std.proofs.lemmas.Bool.Decides.{nat_tests}
 use Rattle.std.proofs.lemmas.Int.{ints}
@@ -19,11 +19,12 @@ use Rattle.smol_line.specs.Coordinate.{ticks_within}
 use Rattle.smol_line.specs.Length.{micros_in, most_micros}
 use Rattle.smol_line.specs.SpeciesWord.{number_in}
 use Rattle.smol_line.specs.Words.{word_at}
-use Rattle.smol_line.proofs.Passing.{valued, is_there}
+use Rattle.smol_line.proofs.Between.{settled_by}
+use Rattle.smol_line.proofs.Passing.{valued, held, is_there, same_value, both}
 use Rattle.smol_line.proofs.Ranges.{decimal_in-within, number_in-within}
 use Rattle.smol_blocks.specs.BlocksSound.{AreCompartmentLines}
 use Rattle.smol_blocks.specs.Compartment.{CompartmentSaid, bounded, holds, bound_in, compartment_of, end_compartment_in, point_in, point_word, points_given, surfaces_named}
-use Rattle.smol_blocks.proofs.SoundValues.{both, held, is_below, no_value, same_value}
+use Rattle.smol_blocks.proofs.SoundValues.{is_below}
 
 -- a coordinate of a point on an axis
 record IsPlacedAt (dims axis : ℕ) (x : ℤ) : Type 0 where
@@ -106,18 +107,13 @@ pub same_dims : (axes : Axes) (dims found : ℕ) → axes.dims ≡ Some dims →
 same_dims axes dims found given is =
     let there = is_there axes.dims BadOrder found is in cc
 
--- the count of axes, by the test that each has walls
-chosen_walls : (test : Bool) (dims found : ℕ) → (if test then Ok dims else Err BadOrder) ≡ Ok found → (test ≡ true) × (dims ≡ found)
-chosen_walls true dims found is = (refl, same_value dims found is)
-chosen_walls false dims found is = no_value BadOrder found is
-
 -- and each of the axes has walls
 walls_there : (axes : Axes) (dims found : ℕ) → axes.dims ≡ Some dims → needs_walls axes ≡ Ok found → (dims ≡ found) × (are_walled dims axes ≡ true)
 walls_there axes dims found given is =
-    let count = valued (needs_dim axes) _ found is in
-    let same = same_dims axes dims count.0 given count.1 in
-    let walled = chosen_walls (are_walled count.0 axes) count.0 found count.2 in
-    (same ∙ walled.1, subst (λ (count : ℕ). are_walled count axes ≡ true) (sym same) walled.0)
+    let settled = settled_by axes found is in
+    let there = settled.0 in
+    let same : dims ≡ found = cc in
+    (same, subst (λ (count : ℕ). are_walled count axes ≡ true) (sym same) settled.1)
 
 -- the coordinates of a line
 at_sound : (axes : Axes) (dims : ℕ) (line : Stated) (at : List ℤ) → AreThese axes dims → are_walled dims axes ≡ true → read_axes point_word (pos 1) 1 axes line ≡ Ok at → IsPoint dims (record { 0 = at })

@@ -8,16 +8,17 @@ use Rattle.smol_text.specs.Reading.{Stated, words_of}
 use Rattle.smol_types.specs.declared.fault.Kind.TheVariants.{BadJump, WrongWordCount}
 use Rattle.smol_types.specs.declared.surface.Face.{Face}
 use Rattle.smol_types.specs.Panels.{IsCongruent}
+use Rattle.smol_line.specs.LookingBack.{nearer}
 use Rattle.smol_line.specs.SpeciesWord.{number_in}
 use Rattle.smol_line.specs.Words.{word_at}
-use Rattle.smol_line.proofs.Passing.{valued}
+use Rattle.smol_line.proofs.Passing.{valued, held, same_value, both}
 use Rattle.smol_line.proofs.Ranges.{number_in-within}
 use Rattle.smol_blocks.specs.declared.jump.Leading.{Leading}
 use Rattle.smol_blocks.specs.BlocksSound.{LeadsAmong, LeadsFrom}
 use Rattle.smol_blocks.specs.Faces.{face_in}
 use Rattle.smol_blocks.specs.Jump.{are_congruent, arrow_in, edge_of, jump_in, no_rect}
-use Rattle.smol_blocks.specs.Surface.{led_by, nearer, same_face}
-use Rattle.smol_blocks.proofs.SoundValues.{both, found_before, held, same_value}
+use Rattle.smol_blocks.specs.Surface.{led_by, same_face}
+use Rattle.smol_blocks.proofs.SoundValues.{found_before}
 
 -- rectangles that pass the test are congruent
 congruent : (a b : Rect) → are_congruent a b ≡ true → IsCongruent a b

@@ -10,12 +10,12 @@ use Rattle.smol_types.specs.declared.fault.Kind.TheVariants.{NotInProfile, OutOf
 use Rattle.smol_types.specs.Limits.{farthest, most_panels}
 use Rattle.smol_line.specs.Length.{micros_in, most_micros}
 use Rattle.smol_line.specs.Words.{word_at}
-use Rattle.smol_line.proofs.Passing.{valued}
+use Rattle.smol_line.proofs.Passing.{valued, held, no_value, same_value}
 use Rattle.smol_line.proofs.Ranges.{decimal_in-within}
 use Rattle.smol_blocks.specs.declared.panel.Facing.{Facing}
 use Rattle.smol_blocks.specs.BlocksSound.{IsPanelRect}
 use Rattle.smol_blocks.specs.Panel.{Named, corner_in, edge_in, edge_place, extent_in, facing_in, facing_of, is_shape, name_in, panel_in, rect_in, shape_in, sign_of, ticks}
-use Rattle.smol_blocks.proofs.SoundValues.{held, is_below, no_value, same_value}
+use Rattle.smol_blocks.proofs.SoundValues.{is_below}
 
 -- the ends of a rectangle on an axis, by its corner and by how far it reaches
 record IsReach (dims across axis : ℕ) (corner extent : ℤ) : Type 0 where

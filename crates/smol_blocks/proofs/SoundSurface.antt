@@ -1,14 +1,14 @@
 -- What lines without a fault say of a surface is sound, and so are the panels that come of them.
-use Rattle.std.proofs.Common.{◌≡◌, ℕ, zero, suc, ◌+◌, ◌<◌, ◌≤◌, Bool, List, [], ◌∷◌, ◌++◌, length, All, Option, None, Some, Result, Ok, Err, IsSomeAnd, slice_get, refl, ap, arith, subst, length-append}
+use Rattle.std.proofs.Common.{◌≡◌, ℕ, zero, suc, ◌+◌, ◌<◌, ◌≤◌, Bool, List, [], ◌∷◌, ◌++◌, length, All, Option, None, Some, Ok, IsSomeAnd, slice_get, refl, ap, arith, subst, length-append}
 use Rattle.std.proofs.lemmas.List.Elements.{All-nil, All-cons, All-head, All-tail, All-push}
 use Rattle.smol_geom.specs.declared.rect.Rect.{Rect}
 use Rattle.smol_text.specs.Reading.{Stated}
-use Rattle.smol_types.specs.declared.fault.Kind.{Kind}
 use Rattle.smol_types.specs.declared.surface.Face.{Face}
 use Rattle.smol_types.specs.declared.surface.Face.TheVariants.{Front, Back}
 use Rattle.smol_types.specs.declared.surface.Panel.{Panel as ThePanel}
 use Rattle.smol_types.specs.Limits.{most_panels}
 use Rattle.smol_types.specs.Panels.{IsCongruent, IsPanel, LeadsToCongruent}
+use Rattle.smol_line.proofs.Passing.{said_by}
 use Rattle.smol_blocks.specs.declared.jump.Leading.{Leading}
 use Rattle.smol_blocks.specs.declared.surface_statement.SurfaceStatement.{SurfaceStatement}
 use Rattle.smol_blocks.specs.declared.surface_statement.SurfaceStatement.TheVariants as statement
@@ -17,15 +17,10 @@ use Rattle.smol_blocks.specs.Blocks.{numbered_face, panels_from}
 use Rattle.smol_blocks.specs.BlocksSound.{AreSurfaceLines, IsPanelRect, LeadsAmong, LeadsFrom}
 use Rattle.smol_blocks.specs.Jump.{jump_in}
 use Rattle.smol_blocks.specs.Panel.{Named, panel_in}
-use Rattle.smol_blocks.specs.Surface.{SurfaceSaid, acts, shows, leads, Known, led_to, names_of, rects_of, say, sides_of, surface_line_in}
+use Rattle.smol_blocks.specs.Surface.{SurfaceSaid, acts, shows, leads, Known, led_to, names_of, rects_of, sides_of, surface_line_in}
 use Rattle.smol_blocks.proofs.SoundJump.{IsLeading, jump_sound, leads_more, leads_nearer}
 use Rattle.smol_blocks.proofs.SoundPanel.{IsShown, panel_sound}
-use Rattle.smol_blocks.proofs.SoundValues.{found_before, no_value, same_value}
-
--- the value behind what is said
-said_of : {T : Type 0} (what : T → SurfaceSaid) (rule : Result T Kind) (more : SurfaceSaid) → say what rule ≡ Ok more → (value : T) × (rule ≡ Ok value) × (what value ≡ more)
-said_of what (Ok value) more is = (value, refl, same_value (what value) more is)
-said_of what (Err kind) more is = no_value kind more is
+use Rattle.smol_blocks.proofs.SoundValues.{found_before}
 
 -- no line is said yet
 pub no_surface_lines : (dims others : ℕ) → others ≤ most_panels → AreSurfaceLines dims others []
@@ -71,15 +66,15 @@ leads_keeps dims others lines leading new sound = record {
 pub surface_keeps : (given : SurfaceStatement) (known : Known) (lines : List SurfaceSaid) (line : Stated) (more : SurfaceSaid) → known.dims ≤ 3 → surface_line_in given known lines line ≡ Ok more → AreSurfaceLines known.dims known.others lines → AreSurfaceLines known.dims known.others (more ∷ lines)
 unfolding surface_line_in
 surface_keeps statement.Action known lines line more few is sound =
-    let by = said_of acts (action_in known.species line) more is in
+    let by = said_by acts (action_in known.species line) more is in
     subst (λ (more : SurfaceSaid). AreSurfaceLines known.dims known.others (more ∷ lines)) by.2
     (record { count = sound.count; names = sound.names; sides = sound.sides; rects = sound.rects; front_to = sound.front_to; back_to = sound.back_to })
 surface_keeps statement.Panel known lines line more few is sound =
-    let by = said_of shows (panel_in known.dims known.others (names_of lines) line) more is in
+    let by = said_by shows (panel_in known.dims known.others (names_of lines) line) more is in
     subst (λ (more : SurfaceSaid). AreSurfaceLines known.dims known.others (more ∷ lines)) by.2
     (shows_keeps known.dims known.others lines by.0 (panel_sound known.dims known.others (names_of lines) line by.0 few by.1) sound)
 surface_keeps statement.Jump known lines line more few is sound =
-    let by = said_of leads (jump_in (names_of lines) (rects_of lines) line) more is in
+    let by = said_by leads (jump_in (names_of lines) (rects_of lines) line) more is in
     subst (λ (more : SurfaceSaid). AreSurfaceLines known.dims known.others (more ∷ lines)) by.2
     (leads_keeps known.dims known.others lines by.0 (jump_sound (names_of lines) (rects_of lines) line by.0 sound.names by.1) sound)
 

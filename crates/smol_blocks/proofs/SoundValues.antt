@@ -1,28 +1,6 @@
--- What follows from a rule that gives a value, and what is found in a list that more follows.
-use Rattle.std.proofs.Common.{◌≡◌, ℕ, zero, suc, ◌+◌, ◌<◌, ◌&&◌, nat_lt, Bool, true, false, List, [], ◌∷◌, ◌++◌, length, Option, Result, Ok, Err, IsSomeAnd, slice_get, arith, refl, subst}
+-- What the test of an order tells, and what is found in a list that more follows.
+use Rattle.std.proofs.Common.{◌≡◌, ℕ, zero, suc, ◌+◌, ◌<◌, nat_lt, true, List, [], ◌∷◌, ◌++◌, length, IsSomeAnd, slice_get, arith, subst}
 use Rattle.std.proofs.lemmas.Bool.Decides.{Decides-ltb}
-use Rattle.smol_types.specs.declared.fault.Kind.{Kind}
-use Rattle.smol_line.specs.Checks.{unless, passing}
-use Rattle.smol_line.proofs.Passing.{passed, holds}
-
--- a fault is no value
-pub no_value : {T F P : Type 0} (fault : F) (value : T) → Err fault ≡ Ok value → P
-no_value fault value is = absurd (cc)
-
--- two values of one result are the same
-pub same_value : {T F : Type 0} (x y : T) → ◌≡◌ {A = Result T F} (Ok x) (Ok y) → x ≡ y
-same_value x y is = cc
-
--- a condition that held, and what passed behind it
-pub held : {T : Type 0} (condition : Bool) (kind : Kind) (tests : List (Option Kind)) (value : Result T Kind) (last : T) → passing (unless condition kind ∷ tests) value ≡ Ok last → (condition ≡ true) × (passing tests value ≡ Ok last)
-held condition kind tests value last is =
-    let first = passed (unless condition kind) tests value last is in
-    (holds condition kind first.0, first.1)
-
--- both of two conditions hold
-pub both : (a b : Bool) → (a && b) ≡ true → (a ≡ true) × (b ≡ true)
-both true b is = (refl, is)
-both false b is = absurd cc
 
 -- what the test of an order tells
 pub is_below : (a b : ℕ) → nat_lt a b ≡ true → a < b

@@ -7,6 +7,7 @@ use Rattle.smol_types.specs.declared.surface.Action.TheVariants.{Transmit}
 use Rattle.smol_types.specs.declared.surface.Face.TheVariants.{Front, Back}
 use Rattle.smol_line.specs.declared.refusal.Refusal.{Refusal}
 use Rattle.smol_line.specs.declared.refusal.Refusal.TheVariants.{At, OutOfMemory}
+use Rattle.smol_line.specs.LookingBack.{nearer, say}
 use Rattle.smol_line.specs.SpeciesWord.{is_chosen}
 use Rattle.smol_blocks.specs.declared.action.Acting.{Acting}
 use Rattle.smol_blocks.specs.declared.action_table.ActionTable.{ActionTable}
@@ -16,7 +17,7 @@ use Rattle.smol_blocks.specs.declared.surface_statement.SurfaceStatement.TheVari
 use Rattle.smol_blocks.specs.declared.surface_table.SurfaceTable.{SurfaceTable}
 use Rattle.smol_blocks.specs.Jump.{jump_in}
 use Rattle.smol_blocks.specs.Panel.{Named, panel_in}
-use Rattle.smol_blocks.specs.Surface.{SurfaceSaid, acts, shows, leads, Known, means_face, nearer, led_by, rects_of, say, surface_line_in}
+use Rattle.smol_blocks.specs.Surface.{SurfaceSaid, acts, shows, leads, Known, means_face, led_by, rects_of, surface_line_in}
 use Rattle.smol_blocks.specs.SurfaceTable.{AddsPanel, AddsJump, Holds, Reads}
 
 -- a value of which the fact holds

@@ -13,6 +13,7 @@ use Rattle.smol_types.specs.Limits.{most_surfaces, most_compartments}
 use Rattle.smol_line.specs.declared.axes.Axes.{Axes}
 use Rattle.smol_line.specs.Axes.{needs_dim}
 use Rattle.smol_line.specs.Checks.{unless, word_count, passing, with_value}
+use Rattle.smol_line.specs.LookingBack.{say}
 use Rattle.smol_line.specs.Names.{new_name_in}
 use Rattle.smol_line.specs.Words.{word_at}
 use Rattle.smol_blocks.specs.declared.block_statement.BlockStatement.{BlockStatement}
@@ -171,16 +172,11 @@ start_compartment_in axes before line =
     passing (unless (nat_lt (length (compartment_names before)) most_compartments) TooMany ∷ [])
     (Ok (opens_compartment line.number name))))))
 
--- what is said of the surface whose block is open
-abbrev pub say_surface : Result SurfaceSaid Kind → Result BlockSaid Kind
-say_surface (Ok said) = Ok (of_surface said)
-say_surface (Err kind) = Err kind
-
 -- a line that stands in the block of a surface, by the block that is open
 abbrev pub in_surface_in : SurfaceStatement → Axes → List (List ℕ) → List BlockSaid → Stated → Block → Result BlockSaid Kind
 in_surface_in statement axes species before line no_block = Err BadOrder
 in_surface_in statement axes species before line (in_surface opened lines) =
-    with_value (needs_dim axes) (λ dims. say_surface (surface_line_in statement (known_to dims species before) lines line))
+    with_value (needs_dim axes) (λ dims. say of_surface (surface_line_in statement (known_to dims species before) lines line))
 in_surface_in statement axes species before line (in_compartment opened lines) = Err BadOrder
 
 -- `end_surface`: the surface of the block, and its panels

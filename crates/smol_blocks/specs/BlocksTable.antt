@@ -1,9 +1,9 @@
 -- What the reader keeps of blocks. This is no part of what a text means.
-use Rattle.std.specs.Prelude.{◌≡◌, ◌+◌, ◌<◌, ◌≤◌, ℕ, List, ◌∷◌, length, Result, Ok, Err}
+use Rattle.std.specs.Prelude.{◌≡◌, ◌+◌, ◌<◌, ◌≤◌, ℕ, List, length, Result}
 use Rattle.smol_types.specs.declared.fault.Kind.{Kind}
 use Rattle.smol_types.specs.Limits.{most_bounds, most_compartments, most_panels, most_points, most_surfaces}
 use Rattle.smol_line.specs.declared.refusal.Refusal.{Refusal}
-use Rattle.smol_line.specs.declared.refusal.Refusal.TheVariants.{At, OutOfMemory}
+use Rattle.smol_line.specs.LookingBack.{Reads as ReadsLine}
 use Rattle.smol_blocks.specs.declared.blocks.Blocks.{Blocks}
 use Rattle.smol_blocks.specs.declared.blocks.OpenBlock.{OpenBlock}
 use Rattle.smol_blocks.specs.declared.blocks.OpenBlock.TheVariants as open_block
@@ -51,7 +51,4 @@ pub record IsKept (species : ℕ) (table : Blocks) : Type 0 where
 
 -- how the reading of a line ends: it is taken and the table holds what it says too, or its fault is told, or memory ran out
 abbrev pub Reads : {T : Type 0} → (List BlockSaid → Result BlockSaid Kind) → Blocks → Blocks → Result T Refusal → Type 0
-Reads rule old new (Ok done) = (said : List BlockSaid) → Holds old said → (more : BlockSaid) × (rule said ≡ Ok more)
-    × Holds new (more ∷ said)
-Reads rule old new (Err (At kind)) = (said : List BlockSaid) → Holds old said → rule said ≡ Err kind
-Reads rule old new (Err OutOfMemory) = Unit {0}
+Reads rule old new result = ReadsLine Holds rule old new result

@@ -1,5 +1,5 @@
 -- What the lines of a surface's block say, and the surface that comes of them. The lines before a line stand nearest first.
-use Rattle.std.specs.Prelude.{ℕ, ◌+◌, ◌==◌, ◌&&◌, Bool, true, false, List, [], ◌∷◌, ◌++◌, Option, None, Some, Result, Ok, Err, if◌then◌else◌}
+use Rattle.std.specs.Prelude.{ℕ, ◌+◌, ◌==◌, ◌&&◌, Bool, true, false, List, [], ◌∷◌, ◌++◌, Option, None, Some, Result, if◌then◌else◌}
 use Rattle.smol_geom.specs.declared.rect.Rect.{Rect}
 use Rattle.smol_text.specs.Reading.{Stated}
 use Rattle.smol_types.specs.declared.fault.Kind.{Kind}
@@ -8,6 +8,7 @@ use Rattle.smol_types.specs.declared.surface.Action.TheVariants as action
 use Rattle.smol_types.specs.declared.surface.Face.{Face}
 use Rattle.smol_types.specs.declared.surface.Face.TheVariants as face
 use Rattle.smol_types.specs.declared.surface.Surface.{Surface as TheSurface}
+use Rattle.smol_line.specs.LookingBack.{say, nearer}
 use Rattle.smol_line.specs.SpeciesWord.{is_chosen}
 use Rattle.smol_blocks.specs.declared.action.Acting.{Acting}
 use Rattle.smol_blocks.specs.declared.faces.Faces.{Faces}
@@ -84,11 +85,6 @@ led_by leading panel one =
     then Some (leading.to, leading.to_face)
     else (if leading.both && (leading.to == panel) && same_face leading.to_face one then Some (leading.from, leading.from_face) else None)
 
--- what is there in the first place, and else in the second
-abbrev pub nearer : {T : Type 0} → Option T → Option T → Option T
-nearer None older = older
-nearer (Some value) older = Some value
-
 -- where a jump from a face of the panel of a number leads, by the nearest line before that says it: the number of a
 -- panel of the surface, and its face
 abbrev pub led_to : ℕ → Face → List SurfaceSaid → Option (ℕ × Face)
@@ -96,11 +92,6 @@ led_to panel one [] = None
 led_to panel one (acts acting ∷ before) = led_to panel one before
 led_to panel one (shows new ∷ before) = led_to panel one before
 led_to panel one (leads leading ∷ before) = nearer (led_by leading panel one) (led_to panel one before)
-
--- what is said by a value, where there is one
-abbrev pub say : {T : Type 0} → (T → SurfaceSaid) → Result T Kind → Result SurfaceSaid Kind
-say said (Ok value) = Ok (said value)
-say said (Err kind) = Err kind
 
 -- what a line of the block says that makes this statement, or its fault
 unfoldable pub surface_line_in : SurfaceStatement → Known → List SurfaceSaid → Stated → Result SurfaceSaid Kind

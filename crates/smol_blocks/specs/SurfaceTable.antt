@@ -1,17 +1,17 @@
 -- What the reader keeps of the lines of a surface's block. This is no part of what a text means.
-use Rattle.std.specs.Prelude.{◌≡◌, ◌<◌, ℕ, List, [], ◌∷◌, ◌++◌, length, Option, None, IfSome, Result, Ok, Err, slice_index_or}
+use Rattle.std.specs.Prelude.{◌≡◌, ◌<◌, ℕ, List, [], ◌∷◌, ◌++◌, length, Option, None, IfSome, Result, slice_index_or}
 use Rattle.smol_text.specs.Reading.{Stated}
 use Rattle.smol_types.specs.declared.fault.Kind.{Kind}
 use Rattle.smol_types.specs.declared.surface.Action.TheVariants.{Transmit}
 use Rattle.smol_types.specs.declared.surface.Face.{Face}
 use Rattle.smol_types.specs.declared.surface.Face.TheVariants.{Front, Back}
 use Rattle.smol_line.specs.declared.refusal.Refusal.{Refusal}
-use Rattle.smol_line.specs.declared.refusal.Refusal.TheVariants.{At, OutOfMemory}
+use Rattle.smol_line.specs.LookingBack.{nearer, Reads as ReadsLine}
 use Rattle.smol_blocks.specs.declared.jump.Leading.{Leading}
 use Rattle.smol_blocks.specs.declared.panel_table.PanelTable.{PanelTable}
 use Rattle.smol_blocks.specs.declared.surface_table.SurfaceTable.{SurfaceTable}
 use Rattle.smol_blocks.specs.Panel.{Named}
-use Rattle.smol_blocks.specs.Surface.{SurfaceSaid, Known, names_of, rects_of, sides_of, acting_on, led_by, led_to, nearer}
+use Rattle.smol_blocks.specs.Surface.{SurfaceSaid, Known, names_of, rects_of, sides_of, acting_on, led_by, led_to}
 
 -- jumps lead to panels of these, if anywhere
 abbrev pub LeadWithin : ℕ → List (Option (ℕ × Face)) → Type 0
@@ -57,10 +57,7 @@ pub record Holds (table : SurfaceTable) (before : List SurfaceSaid) : Type 0 whe
 -- how the reading of a line ends: it is taken and the table holds what it says too, or its fault is told, or memory ran out
 abbrev pub Reads : {T : Type 0} → (List SurfaceSaid → Stated → Result SurfaceSaid Kind) → Stated → SurfaceTable
     → SurfaceTable → Result T Refusal → Type 0
-Reads rule line old new (Ok done) =
-    (before : List SurfaceSaid) → Holds old before → (said : SurfaceSaid) × (rule before line ≡ Ok said) × Holds new (said ∷ before)
-Reads rule line old new (Err (At kind)) = (before : List SurfaceSaid) → Holds old before → rule before line ≡ Err kind
-Reads rule line old new (Err OutOfMemory) = Unit {0}
+Reads rule line old new result = ReadsLine Holds (λ before. rule before line) old new result
 
 -- what a block may know of the lines before it
 abbrev pub known_of : ℕ → List (List ℕ) → ℕ → Known

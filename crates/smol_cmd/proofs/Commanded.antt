@@ -9,10 +9,10 @@ use Rattle.smol_types.specs.declared.fault.Kind.{Kind}
 use Rattle.smol_types.specs.declared.fault.Kind.TheVariants.{WrongWordCount}
 use Rattle.smol_line.specs.declared.refusal.Refusal.{Refusal}
 use Rattle.smol_line.specs.declared.refusal.Refusal.TheVariants.{At, OutOfMemory}
+use Rattle.smol_line.specs.Answers.{Answers}
 use Rattle.smol_line.specs.Checks.{unless, passing, with_value}
 use Rattle.smol_line.specs.Words.{word_at}
 use Rattle.smol_cmd.specs.declared.condition.Condition.{Condition}
-use Rattle.smol_cmd.specs.Answers.{Answers}
 use Rattle.smol_cmd.specs.Known.{Known}
 use Rattle.smol_cmd.specs.Act.{act_in}
 use Rattle.smol_cmd.specs.Test.{condition_in, condition_words, test_in}

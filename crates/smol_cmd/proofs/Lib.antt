@@ -1,4 +1,3 @@
-pub mod Passing
 pub mod WhoLemmas
 pub mod EchoLemmas
 pub mod OutputNames

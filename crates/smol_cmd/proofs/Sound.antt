@@ -1,5 +1,5 @@
 -- The command of a line without a fault is sound.
-use Rattle.std.proofs.Common.{◌≡◌, ◌+◌, ◌<◌, ◌≤◌, ℕ, zero, suc, nat_le, nat_lt, List, [], ◌∷◌, length, Option, None, Some, Result, Ok, All, refl, arith, subst}
+use Rattle.std.proofs.Common.{◌≡◌, ◌+◌, ◌<◌, ◌≤◌, ℕ, zero, suc, nat_le, nat_lt, List, [], ◌∷◌, length, Option, None, Some, Result, Ok, All, arith, subst}
 use Rattle.std.proofs.lemmas.Bool.Decides.{nat_tests}
 use Rattle.std.proofs.lemmas.List.Elements.{All-nil, All-cons, All-weaker}
 use Rattle.smol_text.specs.Reading.{Stated, words_of}
@@ -18,7 +18,7 @@ use Rattle.smol_line.specs.Checks.{unless, word_count, there}
 use Rattle.smol_line.specs.Numbers.{count_in}
 use Rattle.smol_line.specs.SpeciesWord.{number_in, species_word_in}
 use Rattle.smol_line.specs.Words.{word_at}
-use Rattle.smol_line.proofs.Passing.{passed, valued}
+use Rattle.smol_line.proofs.Passing.{passed, valued, held, no_value, same_value}
 use Rattle.smol_line.proofs.Ranges.{count_in-high, number_in-within, species_word_in-within}
 use Rattle.smol_cmd.specs.declared.condition.Condition.{Condition}
 use Rattle.smol_cmd.specs.declared.condition.Condition.TheVariants as condition
@@ -33,7 +33,6 @@ use Rattle.smol_cmd.specs.Echo.{quoted_in, rest_behind, spelled}
 use Rattle.smol_cmd.specs.Act.{act_in, act_of, count_within_in, echo_in, kill_in, kill_prob_in, place_in, point_source_in, positions_in, print_in, replace_in, verb_in}
 use Rattle.smol_cmd.specs.Test.{asked_in, condition_in, condition_words, test_in, test_of}
 use Rattle.smol_cmd.specs.Cmd.{cmd_in, command_in, command_of}
-use Rattle.smol_cmd.proofs.Passing.{held, no_value, same_value}
 use Rattle.smol_cmd.proofs.Values.{outlet_is, probability_is, when_is, who_is}
 use Rattle.smol_cmd.proofs.Between.{place_is}
 
@@ -53,7 +52,7 @@ count_within_is known line at found is =
     let words = passed (word_count (at + 3) line) [] _ found is in
     let compartment = valued (number_in known.compartments (word_at line (at + 1))) _ found words.1 in
     let out = valued (outlet_in known.outputs (word_at line (at + 2))) _ found compartment.2 in
-    subst (Does known) (same_value (act.CountIn compartment.0 out.0) found _ refl out.2)
+    subst (Does known) (same_value (act.CountIn compartment.0 out.0) found out.2)
     (number_in-within known.compartments (word_at line (at + 1)) compartment.0 compartment.1, outlet_is known.outputs (word_at line (at + 2)) out.0 out.1)
 
 positions_is : (known : Known) (line : Stated) (at : ℕ) (found : Act) → positions_in known line at ≡ Ok found → Does known found
@@ -62,7 +61,7 @@ positions_is known line at found is =
     let words = passed (word_count (at + 3) line) [] _ found is in
     let who = valued (who_in known.species (word_at line (at + 1))) _ found words.1 in
     let out = valued (outlet_in known.outputs (word_at line (at + 2))) _ found who.2 in
-    subst (Does known) (same_value (act.Positions who.0 out.0) found _ refl out.2)
+    subst (Does known) (same_value (act.Positions who.0 out.0) found out.2)
     (who_is known.species (word_at line (at + 1)) who.0 who.1, outlet_is known.outputs (word_at line (at + 2)) out.0 out.1)
 
 echo_is : (known : Known) (line : Stated) (at : ℕ) (found : Act) → echo_in known line at ≡ Ok found → Does known found
@@ -70,7 +69,7 @@ unfolding echo_in
 echo_is known line at found is =
     let bytes = valued (there (quoted_in (rest_behind (at + 1) line.part)) WrongWordCount) _ found is in
     let out = valued (outlet_in known.outputs (word_at line (at + 1))) _ found bytes.2 in
-    subst (Does known) (same_value (act.Echo out.0 (spelled bytes.0)) found _ refl out.2)
+    subst (Does known) (same_value (act.Echo out.0 (spelled bytes.0)) found out.2)
     (outlet_is known.outputs (word_at line (at + 1)) out.0 out.1)
 
 kill_is : (known : Known) (line : Stated) (at : ℕ) (found : Act) → kill_in known line at ≡ Ok found → Does known found
@@ -78,7 +77,7 @@ unfolding kill_in
 kill_is known line at found is =
     let words = passed (word_count (at + 2) line) [] _ found is in
     let who = valued (who_in known.species (word_at line (at + 1))) _ found words.1 in
-    subst (Does known) (same_value (act.Kill who.0) found _ refl who.2) (who_is known.species (word_at line (at + 1)) who.0 who.1)
+    subst (Does known) (same_value (act.Kill who.0) found who.2) (who_is known.species (word_at line (at + 1)) who.0 who.1)
 
 kill_prob_is : (known : Known) (line : Stated) (at : ℕ) (found : Act) → kill_prob_in known line at ≡ Ok found → Does known found
 unfolding kill_prob_in
@@ -86,7 +85,7 @@ kill_prob_is known line at found is =
     let words = passed (word_count (at + 3) line) [] _ found is in
     let who = valued (who_in known.species (word_at line (at + 1))) _ found words.1 in
     let p = valued (probability_in (word_at line (at + 2))) _ found who.2 in
-    subst (Does known) (same_value (act.KillProb who.0 p.0) found _ refl p.2)
+    subst (Does known) (same_value (act.KillProb who.0 p.0) found p.2)
     (who_is known.species (word_at line (at + 1)) who.0 who.1, probability_is (word_at line (at + 2)) p.0 p.1)
 
 replace_is : (known : Known) (line : Stated) (at : ℕ) (found : Act) → replace_in known line at ≡ Ok found → Does known found
@@ -96,7 +95,7 @@ replace_is known line at found is =
     let who = valued (who_in known.species (word_at line (at + 1))) _ found words.1 in
     let to = valued (species_word_in known.species (word_at line (at + 2))) _ found who.2 in
     let p = valued (probability_in (word_at line (at + 3))) _ found to.2 in
-    subst (Does known) (same_value (act.Replace who.0 to.0 p.0) found _ refl p.2)
+    subst (Does known) (same_value (act.Replace who.0 to.0 p.0) found p.2)
     (who_is known.species (word_at line (at + 1)) who.0 who.1, species_word_in-within known.species (word_at line (at + 2)) to.0 to.1, probability_is (word_at line (at + 3)) p.0 p.1)
 
 point_source_is : (known : Known) (dims : ℕ) (line : Stated) (at : ℕ) (found : Act) → AreAxes known.axes → needs_walls known.axes ≡ Ok dims → point_source_in known line at ≡ Ok found → Does known found
@@ -108,24 +107,24 @@ point_source_is known dims line at found sound walled is =
     let n = valued (count_in 0 most_molecules (word_at line (at + 2))) _ found species.2 in
     let place = valued (place_in known.axes line (at + 3)) _ found n.2 in
     let between = place_is known.axes dims (at + 3) line place.0 sound walled place.1 in
-    subst (Does known) (same_value (act.PointSource species.0 n.0 place.0) found _ refl place.2)
+    subst (Does known) (same_value (act.PointSource species.0 n.0 place.0) found place.2)
     (species_word_in-within known.species (word_at line (at + 1)) species.0 species.1, count_in-high 0 most_molecules (word_at line (at + 2)) n.0 n.1, between.0, between.1)
 
 -- what the words of a command do
 act_by : (verb : Verb) (known : Known) (dims : ℕ) (line : Stated) (at : ℕ) (found : Act) → AreAxes known.axes → needs_walls known.axes ≡ Ok dims → act_of verb known line at ≡ Ok found → Does known found
 act_by verb.Stop known dims line at found sound walled is =
     let words = passed (word_count (at + 1) line) [] _ found is in
-    subst (Does known) (same_value act.Stop found _ refl words.1) tt
+    subst (Does known) (same_value act.Stop found words.1) tt
 act_by verb.CountHeader known dims line at found sound walled is =
     let out = valued (print_in known line at) _ found is in
-    subst (Does known) (same_value (act.CountHeader out.0) found _ refl out.2) (print_is known line at out.0 out.1)
+    subst (Does known) (same_value (act.CountHeader out.0) found out.2) (print_is known line at out.0 out.1)
 act_by verb.Count known dims line at found sound walled is =
     let out = valued (print_in known line at) _ found is in
-    subst (Does known) (same_value (act.Count out.0) found _ refl out.2) (print_is known line at out.0 out.1)
+    subst (Does known) (same_value (act.Count out.0) found out.2) (print_is known line at out.0 out.1)
 act_by verb.CountIn known dims line at found sound walled is = count_within_is known line at found is
 act_by verb.List known dims line at found sound walled is =
     let out = valued (print_in known line at) _ found is in
-    subst (Does known) (same_value (act.List out.0) found _ refl out.2) (print_is known line at out.0 out.1)
+    subst (Does known) (same_value (act.List out.0) found out.2) (print_is known line at out.0 out.1)
 act_by verb.Positions known dims line at found sound walled is = positions_is known line at found is
 act_by verb.Echo known dims line at found sound walled is = echo_is known line at found is
 act_by verb.Kill known dims line at found sound walled is = kill_is known line at found is
@@ -143,16 +142,16 @@ act_is known dims line at found sound walled is =
 test_by : (condition : Condition) (species : List (List ℕ)) (line : Stated) (at : ℕ) (found : Test) → test_of condition species line at ≡ Ok found → IsTest (length species) found
 test_by condition.No species line at found is =
     let who = valued (who_in species (word_at line (at + 1))) _ found is in
-    subst (IsTest (length species)) (same_value (test.IfNo who.0) found _ refl who.2) (who_is species (word_at line (at + 1)) who.0 who.1)
+    subst (IsTest (length species)) (same_value (test.IfNo who.0) found who.2) (who_is species (word_at line (at + 1)) who.0 who.1)
 test_by condition.Fewer species line at found is =
     let who = valued (who_in species (word_at line (at + 1))) _ found is in
     let n = valued (asked_in line at) _ found who.2 in
-    subst (IsTest (length species)) (same_value (test.IfLess who.0 n.0) found _ refl n.2)
+    subst (IsTest (length species)) (same_value (test.IfLess who.0 n.0) found n.2)
     (who_is species (word_at line (at + 1)) who.0 who.1, count_in-high 0 most_molecules (word_at line (at + 2)) n.0 n.1)
 test_by condition.More species line at found is =
     let who = valued (who_in species (word_at line (at + 1))) _ found is in
     let n = valued (asked_in line at) _ found who.2 in
-    subst (IsTest (length species)) (same_value (test.IfMore who.0 n.0) found _ refl n.2)
+    subst (IsTest (length species)) (same_value (test.IfMore who.0 n.0) found n.2)
     (who_is species (word_at line (at + 1)) who.0 who.1, count_in-high 0 most_molecules (word_at line (at + 2)) n.0 n.1)
 
 test_is : (condition : Condition) (species : List (List ℕ)) (line : Stated) (at : ℕ) (found : Test) → test_in condition species line at ≡ Ok found → IsTest (length species) found
@@ -169,13 +168,13 @@ record AreDone (known : Known) (does : List Test × Act) : Type 0 where
 done_by : (first : Option Condition) (known : Known) (dims : ℕ) (line : Stated) (at : ℕ) (inner : ℕ → Result (List Test × Act) Kind) (does : List Test × Act) → AreAxes known.axes → needs_walls known.axes ≡ Ok dims → ((next : ℕ) (does : List Test × Act) → inner next ≡ Ok does → AreDone known does) → command_of first known line at inner ≡ Ok does → AreDone known does
 done_by None known dims line at inner does sound walled rest is =
     let found = valued (act_in known line at) _ does is in
-    subst (AreDone known) (same_value ([], found.0) does _ refl found.2)
+    subst (AreDone known) (same_value ([], found.0) does found.2)
     (record { tests = All-nil (IsTest (length known.species)); act = act_is known dims line at found.0 sound walled found.1 })
 done_by (Some first) known dims line at inner does sound walled rest is =
     let found = valued (test_in first known.species line at) _ does is in
     let behind = valued (inner (at + condition_words first)) _ does found.2 in
     let others = rest (at + condition_words first) behind.0 behind.1 in
-    subst (AreDone known) (same_value (found.0 ∷ behind.0.0, behind.0.1) does _ refl behind.2)
+    subst (AreDone known) (same_value (found.0 ∷ behind.0.0, behind.0.1) does behind.2)
     (record {
       tests = All-cons (IsTest (length known.species)) found.0 behind.0.0 (test_is first known.species line at found.0 found.1) others.tests;
       act = others.act;
@@ -206,7 +205,7 @@ given_is known count line command is =
     let tests : length does.0.0 ≤ most_tests = grind (arith, nat_tests) in
     let below : count < most_commands = grind (arith, nat_tests) in
     let made : Command = record { «when» = due.0.0; tests = does.0.0; act = does.0.1 } in
-    subst (IsGiven known count) (same_value made command _ refl room.1)
+    subst (IsGiven known count) (same_value made command room.1)
     (record {
       room = below;
       sound = λ sound.

@@ -1,9 +1,9 @@
 //! COMMAND and its words: what a command does.
 ghost use Rattle.std.specs.Prelude.{◌≡◌, ◌+◌, ◌<◌, ◌≤◌, length, pos};
 ghost use Rattle.smol_text.specs.Reading.{words_of};
+ghost use Rattle.smol_line.specs.Answers.{Answers};
 ghost use Rattle.smol_line.specs.Axes.{read_axis};
 ghost use Rattle.smol_line.specs.Coordinate.{coordinate_between};
-ghost use Rattle.smol_cmd.specs.Answers.{Answers};
 ghost use Rattle.smol_cmd.specs.Known.{AreFew};
 ghost use Rattle.smol_cmd.specs.Act.{act_in, act_of, count_within_in, echo_in, kill_in, kill_prob_in, place_in, point_source_in, positions_in, print_in, replace_in, stop_in};
 

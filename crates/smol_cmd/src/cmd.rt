@@ -4,7 +4,7 @@ ghost use Rattle.smol_text.specs.Reading.{words_of};
 ghost use Rattle.smol_types.specs.declared.fault.Kind.{Kind as TheKind};
 ghost use Rattle.smol_types.specs.Limits.{most_compartments, most_outputs, most_species};
 ghost use Rattle.smol_line.specs.declared.refusal.Refusal.TheVariants.{At};
-ghost use Rattle.smol_cmd.specs.Answers.{Answers};
+ghost use Rattle.smol_line.specs.Answers.{Answers};
 ghost use Rattle.smol_cmd.specs.Known.{AreFew, known};
 ghost use Rattle.smol_cmd.specs.Cmd.{cmd_in, command_in};
 

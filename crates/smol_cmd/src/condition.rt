@@ -2,7 +2,7 @@
 ghost use Rattle.std.specs.Prelude.{◌≡◌, ◌≤◌, ◌<◌, ◌+◌, length, OnOk};
 ghost use Rattle.smol_text.specs.Reading.{words_of};
 ghost use Rattle.smol_types.specs.Limits.{most_species};
-ghost use Rattle.smol_cmd.specs.Answers.{Answers};
+ghost use Rattle.smol_line.specs.Answers.{Answers};
 ghost use Rattle.smol_cmd.specs.Test.{asked_in, condition_in, condition_words, test_in, test_of};
 
 use crate::places::word_behind;

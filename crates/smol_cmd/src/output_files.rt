@@ -5,7 +5,8 @@ ghost use Rattle.std.specs.Result.{IsOkAnd, result_err};
 ghost use Rattle.smol_types.specs.declared.fault.Kind.{Kind as TheKind};
 ghost use Rattle.smol_types.specs.Limits.{most_outputs};
 ghost use Rattle.smol_line.specs.declared.refusal.Refusal.TheVariants.{At};
-ghost use Rattle.smol_cmd.specs.OutputFiles.{file_names, given_names, is_plain, is_standard, names_fault, output_fault, output_files_in};
+ghost use Rattle.smol_line.specs.Names.{names_fault};
+ghost use Rattle.smol_cmd.specs.OutputFiles.{file_names, given_names, is_plain, is_standard, output_fault, output_files_in};
 
 use smol_line::{NameSet, Refusal, spells, unless};
 use smol_text::StatedLine;
@@ -60,8 +61,8 @@ fn add_output(alloc: Global, outputs: &mut NameSet, word: &[u8]) -> Result<(), R
 // Adds what a word names, where that is a file.
 fn add_word(alloc: Global, outputs: &mut NameSet, word: &[u8]) -> Result<(), Refusal>
     ensures added { OnOk result (outputs.new ≡ outputs.old ++ file_names (word.now ∷ [])) }
-    ensures accepted { OnOk result (names_fault outputs.old (file_names (word.now ∷ [])) ≡ None) }
-    ensures refused { (kind : TheKind) → result ≡ Err (At kind) → names_fault outputs.old (file_names (word.now ∷ [])) ≡ Some kind }
+    ensures accepted { OnOk result (names_fault output_fault outputs.old (file_names (word.now ∷ [])) ≡ None) }
+    ensures refused { (kind : TheKind) → result ≡ Err (At kind) → names_fault output_fault outputs.old (file_names (word.now ∷ [])) ≡ Some kind }
 {
     if is_standard(word) {
         return Ok(());
@@ -72,8 +73,8 @@ fn add_word(alloc: Global, outputs: &mut NameSet, word: &[u8]) -> Result<(), Ref
 // Adds the names of files that the words behind the first one give.
 fn add_outputs(alloc: Global, outputs: &mut NameSet, line: &StatedLine<'_>) -> Result<(), Refusal>
     ensures added { OnOk result (outputs.new ≡ outputs.old ++ given_names line.now) }
-    ensures accepted { OnOk result (names_fault outputs.old (given_names line.now) ≡ None) }
-    ensures refused { (kind : TheKind) → result ≡ Err (At kind) → names_fault outputs.old (given_names line.now) ≡ Some kind }
+    ensures accepted { OnOk result (names_fault output_fault outputs.old (given_names line.now) ≡ None) }
+    ensures refused { (kind : TheKind) → result ≡ Err (At kind) → names_fault output_fault outputs.old (given_names line.now) ≡ Some kind }
 {
     for i in 1..line.len() {
         add_word(alloc, outputs, line.word(i))?;

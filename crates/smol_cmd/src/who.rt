@@ -1,7 +1,7 @@
 //! The species that a command means.
 ghost use Rattle.std.specs.Prelude.{◌≡◌, ◌≤◌, length, IfOk};
 ghost use Rattle.smol_types.specs.Limits.{most_species};
-ghost use Rattle.smol_cmd.specs.Answers.{Answers};
+ghost use Rattle.smol_line.specs.Answers.{Answers};
 ghost use Rattle.smol_cmd.specs.Who.{numbers_of, who_in};
 
 use smol_line::{Chosen, NameSet, Refusal, chosen_in};

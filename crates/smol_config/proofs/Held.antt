@@ -11,6 +11,7 @@ use Rattle.smol_line.specs.declared.axes.Bounds.{Bounds}
 use Rattle.smol_line.specs.declared.refusal.Refusal.{Refusal}
 use Rattle.smol_line.specs.declared.refusal.Refusal.TheVariants.{At, OutOfMemory}
 use Rattle.smol_line.specs.declared.species_word.Chosen.{Chosen}
+use Rattle.smol_line.specs.LookingBack.{say}
 use Rattle.smol_line.specs.SpeciesWord.{is_chosen}
 use Rattle.smol_blocks.specs.declared.block_statement.BlockStatement.{BlockStatement}
 use Rattle.smol_blocks.specs.declared.blocks.Blocks.{Blocks}
@@ -29,7 +30,7 @@ use Rattle.smol_config.specs.declared.species_table.SpeciesTable.{SpeciesTable}
 use Rattle.smol_config.specs.declared.statement.Statement.{Statement}
 use Rattle.smol_config.specs.declared.statement.Statement.TheVariants as statement
 use Rattle.smol_config.specs.declared.tables.Tables.{Tables}
-use Rattle.smol_config.specs.Said.{Said, passed_over, axes, names, moves, starts, stops, steps, limits, seeds, walls, places, of_reactions, of_blocks, writes, performs, say}
+use Rattle.smol_config.specs.Said.{Said, passed_over, axes, names, moves, starts, stops, steps, limits, seeds, walls, places, of_reactions, of_blocks, writes, performs}
 use Rattle.smol_config.specs.Species.{further_words, species_in, species_of}
 use Rattle.smol_config.specs.Motion.{still}
 use Rattle.smol_config.specs.Reader.{placed_in, statement_in}

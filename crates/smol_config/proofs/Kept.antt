@@ -1,5 +1,5 @@
 -- What holds so far is kept by what each line says.
-use Rattle.std.proofs.Common.{◌≡◌, ◌+◌, ◌<◌, ◌≤◌, ◌&&◌, ◌||◌, Bool, true, false, ℕ, zero, suc, ℤ, pos, ◌<ℤ◌, nat_le, List, [], ◌∷◌, ◌++◌, length, All, Option, None, Some, IfSome, IsSomeAnd, unsigned_abs, arith, refl, subst}
+use Rattle.std.proofs.Common.{◌≡◌, ◌+◌, ◌<◌, ◌≤◌, ◌||◌, true, false, ℕ, zero, suc, ℤ, pos, ◌<ℤ◌, nat_le, List, [], ◌∷◌, ◌++◌, length, All, Option, None, Some, IfSome, IsSomeAnd, unsigned_abs, arith, subst}
 use Rattle.std.proofs.lemmas.Bool.Decides.{nat_tests}
 use Rattle.std.proofs.lemmas.List.{length-append}
 use Rattle.std.proofs.lemmas.List.Elements.{All-push, All-weaker}
@@ -13,6 +13,7 @@ use Rattle.smol_line.specs.declared.axes.Axes.{Axes}
 use Rattle.smol_line.specs.declared.axes.Bounds.{Bounds}
 use Rattle.smol_line.specs.Axes.{AreAxes, AreSettled, IsBounded, are_walled, is_walled, walls_of}
 use Rattle.smol_line.specs.declared.species_word.Chosen.{Chosen}
+use Rattle.smol_line.proofs.Passing.{three}
 use Rattle.smol_blocks.specs.Blocks.{BlockSaid, compartments_of}
 use Rattle.smol_blocks.specs.BlocksSound.{AreBlocks}
 use Rattle.smol_blocks.proofs.SoundBlocks.{axes_given}
@@ -317,12 +318,6 @@ performs_kept before command settled few is h =
 missing_wall : (dims axis : ℕ) (bounds : Option Bounds) → axis < dims → bounds ≡ None → is_walled dims axis bounds ≡ true → ⊥
 missing_wall dims axis None used none walled = let passed : (nat_le dims axis || false) ≡ true = walled in grind (arith, nat_tests)
 missing_wall dims axis (Some bounds) used none walled = absurd cc
-
-pub three : (a b c : Bool) → (a && b && c) ≡ true → (a ≡ true) × (b ≡ true) × (c ≡ true)
-three true true true is = (refl, refl, refl)
-three true true false is = absurd cc
-three true false c is = absurd cc
-three false b c is = absurd cc
 
 -- where all axes in use have walls, each has
 settled_walls : (known : Axes) (dims : ℕ) → known.dims ≡ Some dims → AreSettled known → are_walled dims known ≡ true

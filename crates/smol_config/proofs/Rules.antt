@@ -1,8 +1,7 @@
 -- A line without a fault keeps what holds so far.
-use Rattle.std.proofs.Common.{◌≡◌, ◌⊎◌, inl, inr, ◌+ℤ◌, ◌-ℤ◌, ◌==◌, ◌+◌, ◌<◌, ◌≤◌, ◌&&◌, ◌||◌, Bool, true, false, ℕ, ℤ, pos, negsuc, ◌<ℤ◌, ◌≤ℤ◌, ◌*ℤ◌, nat_le, int_lt, int_le, List, [], ◌∷◌, length, Option, None, Some, Result, Ok, Err, IfSome, IsSomeAnd, unsigned_abs, arith, refl, sym, ap, ◌∙◌, subst, if◌then◌else◌, codes}
-use Rattle.std.specs.Ordering.{int_eq}
+use Rattle.std.proofs.Common.{◌≡◌, ◌==◌, ◌+◌, ◌<◌, ◌≤◌, ◌||◌, Bool, true, false, ℕ, ℤ, pos, negsuc, ◌<ℤ◌, nat_le, int_lt, List, [], ◌∷◌, length, Option, None, Some, Result, Ok, IfSome, IsSomeAnd, unsigned_abs, arith, refl, sym, subst, if◌then◌else◌, codes}
 use Rattle.std.specs.Str.{bytes_eq}
-use Rattle.std.proofs.lemmas.Bool.Decides.{nat_tests, Decides-int_eq}
+use Rattle.std.proofs.lemmas.Bool.Decides.{nat_tests}
 use Rattle.std.proofs.lemmas.Int.{ints}
 use Rattle.smol_text.specs.Reading.{Stated, words_of}
 use Rattle.smol_types.specs.declared.command.Command.{Command}
@@ -13,20 +12,21 @@ use Rattle.smol_types.specs.declared.placing.Given.TheVariants.{Any, At}
 use Rattle.smol_types.specs.declared.placing.Placing.{Placing}
 use Rattle.smol_types.specs.declared.placing.Placing.TheVariants as placing
 use Rattle.smol_types.specs.declared.wall.Letter.{Letter}
-use Rattle.smol_types.specs.declared.wall.Wall.{Wall}
 use Rattle.smol_types.specs.Commands.{IsCommand}
-use Rattle.smol_types.specs.Walls.{LiesBetween, IsGiven, AreGiven}
+use Rattle.smol_types.specs.Walls.{IsGiven, AreGiven}
 use Rattle.smol_line.specs.declared.axes.Axes.{Axes}
 use Rattle.smol_line.specs.declared.axes.Bounds.{Bounds}
 use Rattle.smol_line.specs.Axes.{AreAxes, AreSettled, IsBounded, are_walled, is_walled, needs_dim, needs_walls, read_axes, read_axis, walls_of}
 use Rattle.smol_line.specs.Axis.{axis_in}
 use Rattle.smol_line.specs.Checks.{unless, once, word_count, passing, with_value}
-use Rattle.smol_line.specs.Coordinate.{coordinate_between, inside, ticks_within}
+use Rattle.smol_line.specs.Coordinate.{coordinate_between}
 use Rattle.smol_line.specs.Length.{micros_in}
+use Rattle.smol_line.specs.Names.{names_fault}
 use Rattle.smol_line.specs.Numbers.{count_in}
 use Rattle.smol_line.specs.SpeciesWord.{number_in, species_word_in}
 use Rattle.smol_line.specs.Words.{word_at}
-use Rattle.smol_line.proofs.Passing.{passed, valued, holds, not_yet, is_there}
+use Rattle.smol_line.proofs.Between.{settled_by, unwalled, lower_wall, upper_wall, coordinate_lies}
+use Rattle.smol_line.proofs.Passing.{passed, valued, holds, not_yet, is_there, said_by, three}
 use Rattle.smol_line.proofs.Ranges.{count_in-low, count_in-high, decimal_in-within, axis_in-within, number_in-within, species_word_in-within}
 use Rattle.smol_blocks.specs.declared.block_statement.BlockStatement.{BlockStatement}
 use Rattle.smol_blocks.specs.Blocks.{BlockSaid, block_line_in, block_of, compartment_names, compartments_of, is_outside}
@@ -40,11 +40,11 @@ use Rattle.smol_reactions.specs.Statements.{binding_radius_said, product_placeme
 use Rattle.smol_reactions.proofs.SoundSaid.{binding_radius_keeps, product_placement_keeps, reaction_keeps, reaction_probability_keeps}
 use Rattle.smol_config.specs.declared.statement.Statement.{Statement}
 use Rattle.smol_config.specs.declared.statement.Statement.TheVariants as statement
-use Rattle.smol_config.specs.Said.{Said, passed_over, axes, names, moves, starts, stops, steps, limits, seeds, walls, places, of_reactions, of_blocks, writes, performs, say}
+use Rattle.smol_config.specs.Said.{Said, passed_over, axes, names, moves, starts, stops, steps, limits, seeds, walls, places, of_reactions, of_blocks, writes, performs}
 use Rattle.smol_config.specs.Statement.{may_stand, statement_of}
 use Rattle.smol_config.specs.Axes.{axes_of, dims_of}
 use Rattle.smol_config.specs.Dim.{dim_in}
-use Rattle.smol_config.specs.Species.{species_of, names_fault, further_words, species_in}
+use Rattle.smol_config.specs.Species.{species_of, further_words, species_in, species_fault}
 use Rattle.smol_config.specs.Motion.{difc_in, difstep_in}
 use Rattle.smol_config.specs.Times.{nanos_in, start_of, stop_of, step_of, time_in, time_step_in}
 use Rattle.smol_config.specs.MaxMol.{max_mol_of, max_mol_in}
@@ -57,12 +57,7 @@ use Rattle.smol_config.specs.CompartmentMol.{compartment_mol_in}
 use Rattle.smol_config.specs.Commands.{commands_of, known_of, outputs_of}
 use Rattle.smol_config.specs.Reader.{statement_in, line_in}
 use Rattle.smol_config.specs.SoFar.{IsSoFar}
-use Rattle.smol_config.proofs.Kept.{passed_over_kept, axes_kept, names_kept, moves_kept, starts_kept, stops_kept, steps_kept, limits_kept, seeds_kept, walls_kept, places_kept, of_reactions_kept, of_blocks_kept, writes_kept, performs_kept, three}
-
--- what is said is said by a value
-said_by : {T : Type 0} (wrap : T → Said) (rule : Result T Kind) (said : Said) → say wrap rule ≡ Ok said → (value : T) × (rule ≡ Ok value) × (wrap value ≡ said)
-said_by wrap (Ok value) said is = (value, refl, cc)
-said_by wrap (Err kind) said is = absurd cc
+use Rattle.smol_config.proofs.Kept.{passed_over_kept, axes_kept, names_kept, moves_kept, starts_kept, stops_kept, steps_kept, limits_kept, seeds_kept, walls_kept, places_kept, of_reactions_kept, of_blocks_kept, writes_kept, performs_kept}
 
 dim_keeps : (before : List Said) (line : Stated) (dims : ℕ) → dim_in (axes_of before) line ≡ Ok dims → IsSoFar before → IsSoFar (axes dims ∷ before)
 unfolding dim_in
@@ -76,7 +71,7 @@ species_keeps : (before : List Said) (line : Stated) (more : List (List ℕ)) �
 unfolding species_in
 species_keeps before line more is h =
     let enough = unless (nat_le 2 (length (words_of line))) kind.WrongWordCount in
-    let new = names_fault (species_of before) (further_words line) in
+    let new = names_fault species_fault (species_of before) (further_words line) in
     let few = unless (nat_le (length (species_of before) + length (further_words line)) 256) kind.TooMany in
     let value : Result (List (List ℕ)) Kind = Ok (further_words line) in
     let a = passed enough (new ∷ few ∷ []) value more is in
@@ -171,73 +166,17 @@ boundaries_keep before line given is h =
     (walls_kept before dims.0 axis.0 bounds.0 has used (omega arith) (not_yet (bounds_at axis.0 (axes_of before)) new.0)
     (record { in_use = subst Q (sym has) used; low_size = fit.0; high_size = fit.1; ordered = fit.2 }) h)
 
--- a statement that needs walls stands behind them
-settled_by : (known : Axes) (dims : ℕ) → needs_walls known ≡ Ok dims → (known.dims ≡ Some dims) × (are_walled dims known ≡ true)
-settled_by known dims is =
-    let found = valued (needs_dim known) (λ dims. if are_walled dims known then Ok dims else Err kind.BadOrder) dims is in
-    let has = is_there known.dims kind.BadOrder found.0 found.1 in
-    let both = walled_when (are_walled found.0 known) found.0 dims found.2 in
-    (has ∙ ap (λ n. Some n) both.1, subst (λ n. are_walled n known ≡ true) both.1 both.0)
-  where
-    walled_when : (test : Bool) (n found : ℕ) → (if test then Ok n else Err kind.BadOrder) ≡ Ok found → (test ≡ true) × (n ≡ found)
-    walled_when true n found is = (refl, cc)
-    walled_when false n found is = absurd cc
-
 is_settled : (known : Axes) (dims : ℕ) → needs_walls known ≡ Ok dims → AreSettled known
 is_settled known dims is =
     let by = settled_by known dims is in
     let Q : Option ℕ → Type 0 = λ dims. IsSomeAnd dims (λ dims. are_walled dims known ≡ true) in
     subst Q (sym by.0) by.1
 
--- the two walls of an axis
-abbrev lower_wall : ℕ → Bounds → Wall
-lower_wall axis bounds = record { axis = axis; plane = pos 2 *ℤ bounds.low.0; upper = false; letter = bounds.letter }
-
-abbrev upper_wall : ℕ → Bounds → Wall
-upper_wall axis bounds = record { axis = axis; plane = pos 2 *ℤ bounds.high.0; upper = true; letter = bounds.letter }
-
 -- a coordinate on an axis with these walls
 abbrev IsCoordinate : ℕ → Option Bounds → Given → Type 0
 IsCoordinate axis None Any = ⊥
 IsCoordinate axis None (At x) = x ≡ pos 1
 IsCoordinate axis (Some bounds) given = IsGiven (lower_wall axis bounds) (upper_wall axis bounds) given
-
-ticks_between : (axis : ℕ) (bounds : Bounds) (x : ℤ) → bounds.low.0 <ℤ bounds.high.0 → bounds.low.0 ≤ℤ x → x ≤ℤ bounds.high.0 → LiesBetween (lower_wall axis bounds) (upper_wall axis bounds) (ticks_within bounds x)
-ticks_between axis bounds x ordered above below =
-    elim (ticks_cases bounds x) [
-      | inl top ↦
-          let at_top = top.0 in
-          subst (λ (t : ℤ). LiesBetween (lower_wall axis bounds) (upper_wall axis bounds) t) (sym top.1) (record { odd = omega (arith, ints); above = omega (arith, ints); below = omega (arith, ints) })
-      | inr inner ↦
-          let beside = inner.0 in
-          subst (λ (t : ℤ). LiesBetween (lower_wall axis bounds) (upper_wall axis bounds) t) (sym inner.1) (record { odd = omega (arith, ints); above = omega (arith, ints); below = omega (arith, ints) })
-    ]
-  where
-    ticks_cases : (bounds : Bounds) (x : ℤ) → ((x ≡ bounds.high.0) × (ticks_within bounds x ≡ pos 2 *ℤ x -ℤ pos 1)) ⊎ ((x ≡ bounds.high.0 → ⊥) × (ticks_within bounds x ≡ pos 2 *ℤ x +ℤ pos 1))
-    ticks_cases bounds x = by (int_eq x bounds.high.0) refl
-      where
-        by : (test : Bool) → int_eq x bounds.high.0 ≡ test → ((x ≡ bounds.high.0) × (ticks_within bounds x ≡ pos 2 *ℤ x -ℤ pos 1)) ⊎ ((x ≡ bounds.high.0 → ⊥) × (ticks_within bounds x ≡ pos 2 *ℤ x +ℤ pos 1))
-        by true is = inl ((Decides-int_eq x bounds.high.0).0 is, ap (λ b. if b then pos 2 *ℤ x -ℤ pos 1 else pos 2 *ℤ x +ℤ pos 1) is)
-        by false is = inr (λ same. let yes = (Decides-int_eq x bounds.high.0).1 same in let no : true ≡ false = sym yes ∙ is in cc, ap (λ b. if b then pos 2 *ℤ x -ℤ pos 1 else pos 2 *ℤ x +ℤ pos 1) is)
-
-inside_between : (axis : ℕ) (bounds : Bounds) (x found : ℤ) (test : Bool) → bounds.low.0 <ℤ bounds.high.0 → (int_le bounds.low.0 x && int_le x bounds.high.0) ≡ test → (if test then Ok (ticks_within bounds x) else Err kind.OutsideWalls) ≡ Ok found → LiesBetween (lower_wall axis bounds) (upper_wall axis bounds) found
-inside_between axis bounds x found true ordered tests is =
-    let both = both_tests (int_le bounds.low.0 x) (int_le x bounds.high.0) tests in
-    let low = both.0 in
-    let high = both.1 in
-    let same : ticks_within bounds x ≡ found = cc in
-    subst (LiesBetween (lower_wall axis bounds) (upper_wall axis bounds)) same (ticks_between axis bounds x ordered (grind (arith, nat_tests)) (grind (arith, nat_tests)))
-  where
-    both_tests : (a b : Bool) → (a && b) ≡ true → (a ≡ true) × (b ≡ true)
-    both_tests true b is = (refl, is)
-    both_tests false b is = absurd cc
-inside_between axis bounds x found false ordered tests is = absurd cc
-
--- a coordinate between two walls lies there
-coordinate_lies : (axis : ℕ) (bounds : Bounds) (word : List ℕ) (found : ℤ) → bounds.low.0 <ℤ bounds.high.0 → coordinate_between bounds word ≡ Ok found → LiesBetween (lower_wall axis bounds) (upper_wall axis bounds) found
-coordinate_lies axis bounds word found ordered is =
-    let x = valued (micros_in word) (inside bounds) found is in
-    inside_between axis bounds x.0 found (int_le bounds.low.0 x.0 && int_le x.0 bounds.high.0) ordered refl x.2
 
 drawn_or_given : (axis : ℕ) (bounds : Bounds) (word : List ℕ) (given : Given) (drawn : Bool) → bounds.low.0 <ℤ bounds.high.0 → (if drawn then Ok Any else with_value (coordinate_between bounds word) (λ x. Ok (At x))) ≡ Ok given → IsGiven (lower_wall axis bounds) (upper_wall axis bounds) given
 drawn_or_given axis bounds word given true ordered is = let same : Any ≡ given = cc in subst (IsGiven (lower_wall axis bounds) (upper_wall axis bounds)) same tt
@@ -251,9 +190,6 @@ unfolding given_in
 coordinate_is axis dims None line given is_bounded is = let same : At (pos 1) ≡ given = cc in subst (IsCoordinate axis None) same refl
 coordinate_is axis dims (Some bounds) line given is_bounded is =
     drawn_or_given axis bounds (word_at line (3 + axis)) given (bytes_eq (word_at line (3 + axis)) (codes "u")) is_bounded.ordered is
-
-unwalled : (dims axis : ℕ) → axis < dims → is_walled dims axis None ≡ true → ⊥
-unwalled dims axis used walled = let passed : (nat_le dims axis || false) ≡ true = walled in grind (arith, nat_tests)
 
 -- three coordinates lie between the walls of the axes in use
 are_given : (dims : ℕ) (x y z : Option Bounds) (u v w : Given) → 1 ≤ dims → is_walled dims 0 x ≡ true → is_walled dims 1 y ≡ true → is_walled dims 2 z ≡ true → IfSome y (IsBounded (Some dims) 1) → IfSome z (IsBounded (Some dims) 2)

@@ -1,14 +1,10 @@
 -- Names of species, one after another.
-use Rattle.std.proofs.Common.{◌≡◌, ◌+◌, ◌-◌, ◌<◌, ◌≤◌, ◌&&◌, ℕ, zero, suc, Bool, true, false, ℤ, List, [], ◌∷◌, ◌++◌, length, take, drop, get_or, None, Some, arith, refl, sym, ap, ◌∙◌}
+use Rattle.std.proofs.Common.{◌≡◌, ◌+◌, ◌-◌, ◌<◌, ◌≤◌, ◌&&◌, ℕ, zero, suc, Bool, true, false, ℤ, List, [], ◌∷◌, ◌++◌, length, take, drop, get_or, arith, refl, sym, ap, ◌∙◌}
 use Rattle.std.specs.List.{list_all}
-use Rattle.std.specs.Result.{result_err}
 use Rattle.std.proofs.lemmas.Grind.{get_or_after_one}
 use Rattle.std.proofs.lemmas.List.{drop_more, take_more, length-drop}
-use Rattle.smol_types.specs.declared.fault.Kind.{Kind}
-use Rattle.smol_line.specs.Names.{new_name_in}
 use Rattle.smol_config.specs.declared.motion.Motion.{Motion}
 use Rattle.smol_config.specs.Said.{Said}
-use Rattle.smol_config.specs.Species.{first_of, names_fault}
 use Rattle.smol_config.specs.Motion.{still, difstep_of, motion_of}
 use Rattle.smol_config.specs.Content.{species_from}
 use Rattle.smol_config.specs.Tables.{species_made}
@@ -37,14 +33,6 @@ words_to words i word first within is =
     ap (λ k. take k (drop 1 words)) place
     ∙ take_more (drop 1 words) (i - 1) [] (size_behind words i first within)
     ∙ ap (λ w. take (i - 1) (drop 1 words) ++ w ∷ []) (word_behind words i first ∙ sym is)
-
--- a name that is new leaves the others to be tested
-pub names_fault-next : (known : List (List ℕ)) (words : List (List ℕ)) (word : List ℕ) (rest : List (List ℕ)) → words ≡ word ∷ rest → result_err (new_name_in known word) ≡ None → names_fault known words ≡ names_fault (known ++ word ∷ []) rest
-names_fault-next known words word rest is new = ap (names_fault known) is ∙ ap (λ found. first_of found (names_fault (known ++ word ∷ []) rest)) new
-
--- and one that isn't has the first fault
-pub names_fault-found : (known : List (List ℕ)) (words : List (List ℕ)) (word : List ℕ) (rest : List (List ℕ)) (kind : Kind) → words ≡ word ∷ rest → result_err (new_name_in known word) ≡ Some kind → names_fault known words ≡ Some kind
-names_fault-found known words word rest kind is failed = ap (names_fault known) is ∙ ap (λ found. first_of found (names_fault (known ++ word ∷ []) rest)) failed
 
 -- a species more that stands still moves as one that isn't there
 pub pushed_still : (motions : List Motion) (number : ℕ) → get_or (motions ++ still ∷ []) number still ≡ get_or motions number still

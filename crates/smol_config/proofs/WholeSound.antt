@@ -21,6 +21,7 @@ use Rattle.smol_line.specs.declared.axes.Bounds.{Bounds}
 use Rattle.smol_line.specs.Axes.{IsBounded, is_walled, walls_of}
 use Rattle.smol_line.specs.Checks.{unless, passing, there, with_value}
 use Rattle.smol_line.specs.Fault.{Fault, fault_at, at_line}
+use Rattle.smol_line.proofs.Between.{unwalled, lower_wall, upper_wall}
 use Rattle.smol_line.proofs.Passing.{passed, valued, holds, is_there}
 use Rattle.smol_blocks.specs.Blocks.{Block, no_block, in_surface, in_compartment, BlockSaid, block_of, compartments_of, opening_line, surfaces_of}
 use Rattle.smol_blocks.specs.BlocksSound.{AreBlocks, AreBlocksOf, IsBlock}
@@ -106,7 +107,7 @@ doubled_below : (x y : ℤ) → x <ℤ y → (pos 2 *ℤ x) <ℤ (pos 2 *ℤ y)
 doubled_below x y below = omega (arith, ints)
 
 -- the two walls of an axis
-walls_are_axis : (axis : ℕ) (dims : Option ℕ) (bounds : Bounds) → IsBounded dims axis bounds → IsAxis axis (record { axis = axis; plane = pos 2 *ℤ bounds.low.0; upper = false; letter = bounds.letter }) (record { axis = axis; plane = pos 2 *ℤ bounds.high.0; upper = true; letter = bounds.letter })
+walls_are_axis : (axis : ℕ) (dims : Option ℕ) (bounds : Bounds) → IsBounded dims axis bounds → IsAxis axis (lower_wall axis bounds) (upper_wall axis bounds)
 walls_are_axis axis dims bounds sound = record {
   lower_axis = refl;
   upper_axis = refl;
@@ -119,9 +120,6 @@ walls_are_axis axis dims bounds sound = record {
   ordered = doubled_below bounds.low.0 bounds.high.0 sound.ordered;
   one_letter = refl;
 }
-
-unwalled : (dims axis : ℕ) → axis < dims → is_walled dims axis None ≡ true → ⊥
-unwalled dims axis used walled = let open_end : (nat_le dims axis || false) ≡ true = walled in grind (arith, nat_tests)
 
 -- the walls of all axes in use
 are_walls : (dims : ℕ) (x y z : Option Bounds) → 1 ≤ dims → dims ≤ 3 → is_walled dims 0 x ≡ true → is_walled dims 1 y ≡ true → is_walled dims 2 z ≡ true → IfSome x (IsBounded (Some dims) 0) → IfSome y (IsBounded (Some dims) 1) → IfSome z (IsBounded (Some dims) 2)

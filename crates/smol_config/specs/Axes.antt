@@ -2,7 +2,8 @@
 use Rattle.std.specs.Prelude.{ℕ, ◌==◌, List, Option, None, Some, if◌then◌else◌}
 use Rattle.smol_line.specs.declared.axes.Axes.{Axes}
 use Rattle.smol_line.specs.declared.axes.Bounds.{Bounds}
-use Rattle.smol_config.specs.Said.{Said, axes, walls, nearest}
+use Rattle.smol_line.specs.LookingBack.{nearest}
+use Rattle.smol_config.specs.Said.{Said, axes, walls}
 
 abbrev pub said_axes : Said → Option ℕ
 said_axes (axes dims) = Some dims

@@ -6,7 +6,8 @@ use Rattle.smol_types.specs.Limits.{most_molecules}
 use Rattle.smol_line.specs.Words.{word_at}
 use Rattle.smol_line.specs.Checks.{once, word_count, passing}
 use Rattle.smol_line.specs.Numbers.{count_in}
-use Rattle.smol_config.specs.Said.{Said, limits, nearest}
+use Rattle.smol_line.specs.LookingBack.{nearest}
+use Rattle.smol_config.specs.Said.{Said, limits}
 
 abbrev pub said_limit : Said → Option ℕ
 said_limit (limits count) = Some count

@@ -7,7 +7,8 @@ use Rattle.smol_types.specs.declared.fault.Kind.TheVariants.{NotInProfile}
 use Rattle.smol_line.specs.Words.{word_at}
 use Rattle.smol_line.specs.Checks.{unless, once, word_count, passing}
 use Rattle.smol_line.specs.Numbers.{count_in}
-use Rattle.smol_config.specs.Said.{Said, seeds, nearest}
+use Rattle.smol_line.specs.LookingBack.{nearest}
+use Rattle.smol_config.specs.Said.{Said, seeds}
 
 -- the greatest seed
 abbrev pub most_seed : ℕ

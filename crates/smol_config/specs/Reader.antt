@@ -7,6 +7,7 @@ use Rattle.smol_types.specs.declared.fault.Kind.TheVariants as kind
 use Rattle.smol_line.specs.Fault.{Fault, fault_at, at_line}
 use Rattle.smol_line.specs.Words.{word_at}
 use Rattle.smol_line.specs.Checks.{unless, passing, with_value}
+use Rattle.smol_line.specs.LookingBack.{say}
 use Rattle.smol_blocks.specs.Blocks.{block_line_in, compartment_names}
 use Rattle.smol_cmd.specs.Cmd.{cmd_in}
 use Rattle.smol_cmd.specs.OutputFiles.{output_files_in}
@@ -14,7 +15,7 @@ use Rattle.smol_reactions.specs.Statements.{binding_radius_said, product_placeme
 use Rattle.smol_config.specs.declared.statement.Statement.{Statement}
 use Rattle.smol_config.specs.declared.statement.Statement.TheVariants.{PassedOver, NotInProfile, Unknown, Dim, Species, Difc, Difstep, TimeStart, TimeStop, TimeStep, MaxMol, RandomSeed, Boundaries, Mol, CompartmentMol, Reaction, BindingRadius, ReactionProbability, ProductPlacement, Block, OutputFiles, Cmd}
 use Rattle.smol_config.specs.Statement.{may_stand, statement_of}
-use Rattle.smol_config.specs.Said.{Said, passed_over, axes, names, moves, starts, stops, steps, limits, seeds, walls, places, of_reactions, of_blocks, writes, performs, say}
+use Rattle.smol_config.specs.Said.{Said, passed_over, axes, names, moves, starts, stops, steps, limits, seeds, walls, places, of_reactions, of_blocks, writes, performs}
 use Rattle.smol_config.specs.Axes.{axes_of, dims_of}
 use Rattle.smol_config.specs.Dim.{dim_in}
 use Rattle.smol_config.specs.Species.{species_in, species_of}

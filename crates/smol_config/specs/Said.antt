@@ -1,6 +1,5 @@
 -- What a line says, and looking back over what the lines before it say. These stand nearest first.
-use Rattle.std.specs.Prelude.{ℕ, ℤ, List, [], ◌∷◌, ◌++◌, Option, None, Some, Result, Ok, Err}
-use Rattle.smol_types.specs.declared.fault.Kind.{Kind}
+use Rattle.std.specs.Prelude.{ℕ, ℤ, List, [], ◌∷◌, ◌++◌, Option, None, Some}
 use Rattle.smol_types.specs.declared.placing.Placing.{Placing}
 use Rattle.smol_types.specs.declared.command.Command.{Command}
 use Rattle.smol_line.specs.declared.axes.Bounds.{Bounds}
@@ -38,21 +37,6 @@ pub data Said : Type 0 where
   writes : List (List ℕ) → Said
   -- this command is performed
   performs : Command → Said
-
--- what is said by a value, where there is one
-abbrev pub say : {T : Type 0} → (T → Said) → Result T Kind → Result Said Kind
-say said (Ok value) = Ok (said value)
-say said (Err kind) = Err kind
-
--- what is there in the first place, and else in the second
-abbrev pub nearer : {T : Type 0} → Option T → Option T → Option T
-nearer None older = older
-nearer (Some value) older = Some value
-
--- what the nearest line before says of the matter
-abbrev pub nearest : {T : Type 0} → (Said → Option T) → List Said → Option T
-nearest matter [] = None
-nearest matter (said ∷ before) = nearer (matter said) (nearest matter before)
 
 -- further things behind a list of them
 abbrev pub followed : {T : Type 0} → List T → Option (List T) → List T

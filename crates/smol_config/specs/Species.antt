@@ -1,12 +1,12 @@
 -- `species NAME ...`: the names of species, in order. Each is new, and there are 256 at most.
-use Rattle.std.specs.Prelude.{ℕ, ◌+◌, nat_le, List, [], ◌∷◌, ◌++◌, length, drop, Option, None, Some, Result, Ok}
+use Rattle.std.specs.Prelude.{ℕ, ◌+◌, nat_le, List, [], ◌∷◌, length, drop, Option, None, Some, Result, Ok}
 use Rattle.std.specs.Result.{result_err}
 use Rattle.smol_text.specs.Reading.{Stated, words_of}
 use Rattle.smol_types.specs.declared.fault.Kind.{Kind}
 use Rattle.smol_types.specs.declared.fault.Kind.TheVariants.{WrongWordCount, TooMany}
 use Rattle.smol_types.specs.Limits.{most_species}
 use Rattle.smol_line.specs.Checks.{unless, passing}
-use Rattle.smol_line.specs.Names.{new_name_in}
+use Rattle.smol_line.specs.Names.{new_name_in, names_fault}
 use Rattle.smol_config.specs.Said.{Said, names, gathered}
 
 abbrev pub said_names : Said → Option (List (List ℕ))
@@ -17,15 +17,9 @@ said_names other = None
 abbrev pub species_of : List Said → List (List ℕ)
 species_of before = gathered said_names before
 
--- the first of two faults
-abbrev pub first_of : Option Kind → Option Kind → Option Kind
-first_of None later = later
-first_of (Some kind) later = Some kind
-
--- the first fault of names behind these names
-abbrev pub names_fault : List (List ℕ) → List (List ℕ) → Option Kind
-names_fault known [] = None
-names_fault known (word ∷ words) = first_of (result_err (new_name_in known word)) (names_fault (known ++ word ∷ []) words)
+-- the fault of a name of a species behind these names
+abbrev pub species_fault : List (List ℕ) → List ℕ → Option Kind
+species_fault known word = result_err (new_name_in known word)
 
 -- the words behind the first one of a line
 abbrev pub further_words : Stated → List (List ℕ)
@@ -35,7 +29,7 @@ unfoldable pub species_in : List Said → Stated → Result (List (List ℕ)) Ki
 species_in before line =
     passing
     (unless (nat_le 2 (length (words_of line))) WrongWordCount
-    ∷ names_fault (species_of before) (further_words line)
+    ∷ names_fault species_fault (species_of before) (further_words line)
     ∷ unless (nat_le (length (species_of before) + length (further_words line)) most_species) TooMany
     ∷ [])
     (Ok (further_words line))

@@ -1,5 +1,5 @@
 -- What the reader keeps of the lines read so far. This is no part of what a text means.
-use Rattle.std.specs.Prelude.{◌≡◌, ◌≤◌, ◌+◌, ◌==◌, ℕ, ℤ, unsigned_abs, true, List, [], ◌∷◌, length, Some, Result, Ok, Err, slice_index_or, if◌then◌else◌}
+use Rattle.std.specs.Prelude.{◌≡◌, ◌≤◌, ◌+◌, ◌==◌, ℕ, ℤ, unsigned_abs, true, List, [], ◌∷◌, length, Some, Result, slice_index_or, if◌then◌else◌}
 use Rattle.smol_text.specs.Reading.{Stated}
 use Rattle.smol_types.specs.declared.draft.Draft.{Draft}
 use Rattle.smol_types.specs.declared.fault.Kind.{Kind}
@@ -9,8 +9,8 @@ use Rattle.smol_line.specs.declared.axes.Axes.{Axes}
 use Rattle.smol_line.specs.declared.axes.Bounds.{Bounds}
 use Rattle.smol_line.specs.Axes.{AreAxes}
 use Rattle.smol_line.specs.Length.{most_micros}
+use Rattle.smol_line.specs.LookingBack.{Reads as ReadsLine}
 use Rattle.smol_line.specs.declared.refusal.Refusal.{Refusal}
-use Rattle.smol_line.specs.declared.refusal.Refusal.TheVariants.{At, OutOfMemory}
 use Rattle.smol_blocks.specs.BlocksTable.{Holds as HoldsBlocks, IsKept as AreBlocksKept}
 use Rattle.smol_reactions.specs.Table.{Holds as HoldsReactions, IsKept}
 use Rattle.smol_config.specs.declared.motion.Motion.{Motion}
@@ -52,10 +52,7 @@ pub record Holds (tables : Tables) (before : List Said) : Type 0 where
 
 -- how the reading of a line ends: it is taken and the tables hold what it says too, or its fault is told, or memory ran out
 abbrev pub Reads : {T : Type 0} → (List Said → Stated → Result Said Kind) → Stated → Tables → Tables → Result T Refusal → Type 0
-Reads rule line old new (Ok done) =
-    (before : List Said) → Holds old before → (said : Said) × (rule before line ≡ Ok said) × Holds new (said ∷ before)
-Reads rule line old new (Err (At kind)) = (before : List Said) → Holds old before → rule before line ≡ Err kind
-Reads rule line old new (Err OutOfMemory) = Unit {0}
+Reads rule line old new result = ReadsLine Holds (λ before. rule before line) old new result
 
 -- the parts of the tables fit each other, and no more is in them than there may be
 pub record AreReady (tables : Tables) : Type 0 where

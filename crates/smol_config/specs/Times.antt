@@ -7,7 +7,8 @@ use Rattle.smol_types.specs.Limits.{latest}
 use Rattle.smol_line.specs.Words.{word_at}
 use Rattle.smol_line.specs.Checks.{unless, once, word_count, passing, with_value}
 use Rattle.smol_line.specs.Numbers.{decimal_in}
-use Rattle.smol_config.specs.Said.{Said, starts, stops, steps, nearest}
+use Rattle.smol_line.specs.LookingBack.{nearest}
+use Rattle.smol_config.specs.Said.{Said, starts, stops, steps}
 
 -- a time in nanos
 abbrev pub nanos_in : List ℕ → Result ℤ Kind

@@ -1,12 +1,11 @@
 //! `species NAME ...`: the names of species, in order.
 ghost use Rattle.std.specs.Prelude.{◌≡◌, ◌≤◌, ◌++◌, ◌∷◌, [], ℕ, List, None, Some, length, take, drop, slice_index_or, OnOk, Ok, Err};
-ghost use Rattle.std.specs.Result.{result_err};
 ghost use Rattle.smol_text.specs.Reading.{words_of};
 ghost use Rattle.smol_types.specs.declared.fault.Kind.{Kind as TheKind};
 ghost use Rattle.smol_line.specs.declared.refusal.Refusal.TheVariants.{At};
-ghost use Rattle.smol_line.specs.Names.{new_name_in};
+ghost use Rattle.smol_line.specs.Names.{names_fault};
 ghost use Rattle.smol_config.specs.Said.{Said};
-ghost use Rattle.smol_config.specs.Species.{further_words, names_fault, species_in, species_of};
+ghost use Rattle.smol_config.specs.Species.{further_words, species_fault, species_in, species_of};
 ghost use Rattle.smol_config.specs.Motion.{still};
 
 use crate::species_table::SpeciesTable;
@@ -22,8 +21,8 @@ const MOST_SPECIES: usize = 256;
 fn add_name(alloc: Global, species: &mut SpeciesTable, word: &[u8]) -> Result<(), Refusal>
     ensures names { OnOk result (species.new.names ≡ species.old.names ++ word.now ∷ []) }
     ensures motions { OnOk result (species.new.motions.items ≡ species.old.motions.items ++ still ∷ []) }
-    ensures accepted { OnOk result (result_err (new_name_in species.old.names word.now) ≡ None) }
-    ensures refused { (kind : TheKind) → result ≡ Err (At kind) → result_err (new_name_in species.old.names word.now) ≡ Some kind }
+    ensures accepted { OnOk result (species_fault species.old.names word.now ≡ None) }
+    ensures refused { (kind : TheKind) → result ≡ Err (At kind) → species_fault species.old.names word.now ≡ Some kind }
 {
     let name = new_name_in(&species.names, word)?;
     species.add(alloc, name)?;
@@ -39,8 +38,8 @@ fn add_names(
     ensures names { OnOk result (species.new.names ≡ species.old.names ++ further_words line.now) }
     ensures motions { OnOk result ((number : ℕ)
         → slice_index_or species.new.motions.items number still ≡ slice_index_or species.old.motions.items number still) }
-    ensures accepted { OnOk result (names_fault species.old.names (further_words line.now) ≡ None) }
-    ensures refused { (kind : TheKind) → result ≡ Err (At kind) → names_fault species.old.names (further_words line.now) ≡ Some kind }
+    ensures accepted { OnOk result (names_fault species_fault species.old.names (further_words line.now) ≡ None) }
+    ensures refused { (kind : TheKind) → result ≡ Err (At kind) → names_fault species_fault species.old.names (further_words line.now) ≡ Some kind }
 {
     for i in 1..line.len() {
         add_name(alloc, species, line.word(i))?;

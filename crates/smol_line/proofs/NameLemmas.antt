@@ -1,11 +1,12 @@
--- Names are text.
-use Rattle.std.proofs.Common.{◌≡◌, ℕ, ◌<◌, ◌&&◌, Bool, true, false, not, nat_lt, List, [], ◌∷◌, length, arith, refl}
+-- Names are text, and the first fault of several names.
+use Rattle.std.proofs.Common.{◌≡◌, ℕ, ◌<◌, ◌&&◌, Bool, true, false, not, nat_lt, List, [], ◌∷◌, ◌++◌, length, Option, None, Some, arith, refl, ap, ◌∙◌}
 use Rattle.std.proofs.lemmas.Bool.Decides.{nat_tests}
 use Rattle.std.specs.List.{list_all}
 use Rattle.std.specs.Str.{IsAscii, IsUtf8}
 use Rattle.std.proofs.lemmas.Str.{IsUtf8-from_ascii}
 use Rattle.std.proofs.lemmas.Str.Ascii.{IsAscii-nil, IsAscii-cons}
-use Rattle.smol_line.specs.Names.{is_letter, continues_name, is_reserved, is_name}
+use Rattle.smol_types.specs.declared.fault.Kind.{Kind}
+use Rattle.smol_line.specs.Names.{is_letter, continues_name, is_reserved, is_name, first_of, names_fault}
 
 and_left : (a b : Bool) → (a && b) ≡ true → a ≡ true
 and_left true b both = refl
@@ -40,3 +41,11 @@ name_is_text (byte ∷ bytes) name =
     (IsAscii-cons byte bytes
     (letter_is_ascii byte (and_left (is_letter byte) (list_all continues_name bytes) front))
     (all_are_ascii bytes (and_right (is_letter byte) (list_all continues_name bytes) front)))
+
+-- a name without a fault leaves the others to be tested
+pub names_fault-next : (fault : List (List ℕ) → List ℕ → Option Kind) (known names : List (List ℕ)) (name : List ℕ) (rest : List (List ℕ)) → names ≡ name ∷ rest → fault known name ≡ None → names_fault fault known names ≡ names_fault fault (known ++ name ∷ []) rest
+names_fault-next fault known names name rest is fine = ap (names_fault fault known) is ∙ ap (λ found. first_of found (names_fault fault (known ++ name ∷ []) rest)) fine
+
+-- and one with a fault has the first
+pub names_fault-found : (fault : List (List ℕ) → List ℕ → Option Kind) (known names : List (List ℕ)) (name : List ℕ) (rest : List (List ℕ)) (kind : Kind) → names ≡ name ∷ rest → fault known name ≡ Some kind → names_fault fault known names ≡ Some kind
+names_fault-found fault known names name rest kind is fails = ap (names_fault fault known) is ∙ ap (λ found. first_of found (names_fault fault (known ++ name ∷ []) rest)) fails

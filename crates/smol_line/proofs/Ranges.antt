@@ -1,20 +1,20 @@
 -- Words with a value: what the value's range is.
-use Rattle.std.proofs.Common.{◌≡◌, ◌≤◌, ◌<◌, ◌≤ℤ◌, ◌&&◌, Bool, true, false, ℕ, ℤ, nat_le, nat_lt, int_le, List, [], length, Option, None, Some, Result, Ok, Err, arith, refl, if◌then◌else◌, position}
+use Rattle.std.proofs.Common.{◌≡◌, ◌≤◌, ◌<◌, ◌≤ℤ◌, ◌&&◌, Bool, true, false, ℕ, ℤ, pos, nat_le, nat_lt, int_le, List, [], length, Option, None, Some, Result, Ok, Err, unsigned_abs, arith, refl, if◌then◌else◌, position}
 use Rattle.std.specs.Str.{bytes_eq}
 use Rattle.std.proofs.lemmas.Bool.Decides.{nat_tests}
+use Rattle.std.proofs.lemmas.Int.{ints}
 use Rattle.std.proofs.lemmas.List.Quantifiers.{position-Some}
 use Rattle.smol_num.specs.declared.num_fault.NumFault.{NumFault}
 use Rattle.smol_num.specs.declared.num_fault.NumFault.TheVariants.{NotNumber, TooLarge}
 use Rattle.smol_num.specs.Digits.{is_count, digits_value, count_of}
 use Rattle.smol_num.specs.Decimal.{decimal_of}
 use Rattle.smol_types.specs.declared.fault.Kind.{Kind}
+use Rattle.smol_types.specs.Limits.{certain}
 use Rattle.smol_line.specs.Axis.{axis_below, axis_in, axis_named}
-use Rattle.smol_line.specs.Numbers.{count_between, count_in, decimal_between, decimal_in}
+use Rattle.smol_line.specs.Numbers.{count_between, count_in, decimal_between, decimal_in, unsigned, unsigned_in}
+use Rattle.smol_line.specs.Probability.{chance_in, threshold_of, whole_chance}
 use Rattle.smol_line.specs.SpeciesWord.{number_found, number_in, number_among, species_name, species_word_in}
-
-both : (a b : Bool) → (a && b) ≡ true → (a ≡ true) × (b ≡ true)
-both true b is = (refl, is)
-both false b is = absurd cc
+use Rattle.smol_line.proofs.Passing.{both}
 
 chosen_low : (test : Bool) (n found : ℕ) (kind : Kind) → (if test then Ok n else Err kind) ≡ Ok found → (test ≡ true) × (n ≡ found)
 chosen_low true n found kind is = (refl, cc)
@@ -58,6 +58,28 @@ decimal_between-within least most (Err fault) found is = absurd cc
 
 pub decimal_in-within : (places : ℕ) (least most : ℤ) (word : List ℕ) (found : ℤ) → decimal_in places least most word ≡ Ok found → (least ≤ℤ found) × (found ≤ℤ most)
 decimal_in-within places least most word found is = decimal_between-within least most (decimal_of word places) found is
+
+-- and one without a sign is at most the most
+unsigned-within : (most : ℕ) (value : Result ℤ Kind) (found : ℕ) → ((x : ℤ) → value ≡ Ok x → (pos 0 ≤ℤ x) × (x ≤ℤ pos most)) → unsigned value ≡ Ok found → found ≤ most
+unsigned-within most (Ok x) found within is =
+    let range = within x refl in
+    let low = range.0 in
+    let high = range.1 in
+    let same : unsigned_abs x ≡ found = cc in
+    omega (arith, ints, same)
+unsigned-within most (Err kind) found within is = absurd cc
+
+unsigned_in-within : (places most : ℕ) (word : List ℕ) (found : ℕ) → unsigned_in places most word ≡ Ok found → found ≤ most
+unsigned_in-within places most word found is =
+    unsigned-within most (decimal_in places (pos 0) (pos most) word) found (decimal_in-within places (pos 0) (pos most) word) is
+
+-- a probability is one whole at most
+pub chance_in-within : (word : List ℕ) (chance : ℕ) → chance_in word ≡ Ok chance → chance ≤ whole_chance
+chance_in-within word chance is = unsigned_in-within 9 whole_chance word chance is
+
+-- and its threshold at most the one that is certain
+pub threshold_of-within : (chance : ℕ) → chance ≤ whole_chance → (threshold_of chance).0 ≤ certain
+threshold_of-within chance within = omega (arith, within)
 
 -- an axis in use is below the number of axes
 axis_below-within : (dims : ℕ) (named : Option ℕ) (axis : ℕ) → axis_below dims named ≡ Ok axis → axis < dims

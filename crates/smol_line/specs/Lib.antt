@@ -2,9 +2,12 @@ pub mod Fault
 pub mod Words
 pub mod Checks
 pub mod Numbers
+pub mod Probability
 pub mod Names
 pub mod SpeciesWord
 pub mod Axis
 pub mod Length
 pub mod Axes
 pub mod Coordinate
+pub mod LookingBack
+pub mod Answers

@@ -1,5 +1,5 @@
--- What counts as a name in a configuration.
-use Rattle.std.specs.Prelude.{ℕ, Bool, false, not, ◌&&◌, ◌||◌, ◌==◌, nat_le, nat_lt, List, [], ◌∷◌, length, Result, Ok, codes, position, is_some}
+-- What counts as a name in a configuration, and the first fault of several names.
+use Rattle.std.specs.Prelude.{ℕ, Bool, false, not, ◌&&◌, ◌||◌, ◌==◌, nat_le, nat_lt, List, [], ◌∷◌, ◌++◌, length, Option, None, Some, Result, Ok, codes, position, is_some}
 use Rattle.std.specs.List.{list_all}
 use Rattle.std.specs.Str.{bytes_eq}
 use Rattle.smol_types.specs.declared.fault.Kind.{Kind}
@@ -31,3 +31,13 @@ is_named names word = is_some (position (bytes_eq word) names)
 -- the new name that a word gives, beside these names
 abbrev pub new_name_in : List (List ℕ) → List ℕ → Result (List ℕ) Kind
 new_name_in names word = passing (unless (is_name word) NotInProfile ∷ unless (not (is_named names word)) RepeatedName ∷ []) (Ok word)
+
+-- the first of two faults
+abbrev pub first_of : Option Kind → Option Kind → Option Kind
+first_of None later = later
+first_of (Some kind) later = Some kind
+
+-- the first fault of further names, by the fault that a name has behind those that are known
+abbrev pub names_fault : (List (List ℕ) → List ℕ → Option Kind) → List (List ℕ) → List (List ℕ) → Option Kind
+names_fault fault known [] = None
+names_fault fault known (name ∷ names) = first_of (fault known name) (names_fault fault (known ++ name ∷ []) names)

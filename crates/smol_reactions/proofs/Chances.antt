@@ -6,9 +6,10 @@ use Rattle.std.proofs.lemmas.List.Sums.{sum_by-cons}
 use Rattle.smol_types.specs.declared.reaction.Reaction.{Reaction}
 use Rattle.smol_types.specs.Limits.{certain}
 use Rattle.smol_types.specs.Reactions.{reacts_alone, share_of}
+use Rattle.smol_line.specs.LookingBack.{nearest}
+use Rattle.smol_line.specs.Probability.{whole_chance}
 use Rattle.smol_reactions.specs.declared.scheme.Scheme.{Scheme}
-use Rattle.smol_reactions.specs.Numbered.{numbered, nearest}
-use Rattle.smol_reactions.specs.ReactionProbability.{whole_chance}
+use Rattle.smol_reactions.specs.Numbered.{numbered}
 use Rattle.smol_reactions.specs.ReactionSaid.{ReactionSaid}
 use Rattle.smol_reactions.specs.Content.{are_shared, chance_alone, chance_said, chance_sum, chances_of, reaction_made, reactions_of, schemes_of, threshold_given}
 

@@ -2,7 +2,6 @@ pub mod Parts
 pub mod Sides
 pub mod Judged
 pub mod Lists
-pub mod Passing
 pub mod SchemeLemmas
 pub mod MoreSaid
 pub mod TableLemmas

@@ -2,10 +2,11 @@
 use Rattle.std.proofs.Common.{◌≡◌, ◌≢◌, ℕ, ℤ, ◌+◌, ◌≤◌, List, [], ◌∷◌, ◌++◌, length, map, Option, None, Some, refl, sym, ap, ◌∙◌, arith, ne_eqb, eq-eqb, length-append}
 use Rattle.smol_num.specs.declared.quantities.Micro.{Micro}
 use Rattle.smol_geom.specs.declared.place.Step3.{Step3}
+use Rattle.smol_line.specs.LookingBack.{nearer, nearest}
 use Rattle.smol_reactions.specs.declared.scheme.Scheme.{Scheme}
 use Rattle.smol_reactions.specs.declared.product_placement.ProductPlacement.{ProductPlacement}
 use Rattle.smol_reactions.specs.declared.product_placement.ProductPlacement.TheVariants.{Offset, Unbind}
-use Rattle.smol_reactions.specs.Numbered.{numbered, changed, nearer, nearest}
+use Rattle.smol_reactions.specs.Numbered.{numbered, changed}
 use Rattle.smol_reactions.specs.ReactionSaid.{ReactionSaid, reacts, binds, happens, places}
 use Rattle.smol_reactions.specs.Content.{schemes_of, of_reaction, radius_said, chance_said, offset_by, offset_said, unbinding, unbinding_said, kind_of, kind_said, product_made, reaction_made, reactions_of, kinds_of, chances_of}
 use Rattle.smol_reactions.specs.Changes.{fresh_product, fresh_reaction, with_chance, with_offset, with_placement, with_radius}

@@ -9,13 +9,12 @@ use Rattle.smol_line.specs.Words.{word_at}
 use Rattle.smol_line.specs.Checks.{unless, there, with_value}
 use Rattle.smol_line.specs.Names.{is_name, is_named, new_name_in}
 use Rattle.smol_line.specs.SpeciesWord.{species_word_in}
-use Rattle.smol_line.proofs.Passing.{valued}
+use Rattle.smol_line.proofs.Passing.{valued, held, no_value, same_value}
 use Rattle.smol_line.proofs.Ranges.{species_word_in-within}
 use Rattle.smol_reactions.specs.declared.scheme.Scheme.{Scheme}
 use Rattle.smol_reactions.specs.Arrangement.{Sides, arrangement_in, is_arrow, is_nothing, is_sum, left_in, right_in, summands}
 use Rattle.smol_reactions.specs.Reaction.{arranged_words, numbers_in, reaction_in, sides_in}
 use Rattle.smol_reactions.specs.Sound.{IsScheme}
-use Rattle.smol_reactions.proofs.Passing.{no_value, same_value, held}
 
 -- these numbers are as many as the words, and each is one of so many
 record AreBelow (count : ℕ) (words : List (List ℕ)) (numbers : List ℕ) : Type 0 where
@@ -34,12 +33,12 @@ one_below count number word words numbers below more = record {
 -- the numbers of words are as many as the words, each one of the names'
 numbers_below : (species words : List (List ℕ)) (numbers : List ℕ) → numbers_in species words ≡ Ok numbers → AreBelow (length species) words numbers
 numbers_below species [] numbers is =
-    subst (AreBelow (length species) []) (same_value [] numbers (numbers_in species []) refl is) (none_below (length species))
+    subst (AreBelow (length species) []) (same_value [] numbers is) (none_below (length species))
 numbers_below species (word ∷ words) numbers is =
     let first = valued (species_word_in species word) (λ number. with_value (numbers_in species words) (λ more. Ok (number ∷ more))) numbers is in
     let rest = valued (numbers_in species words) (λ more. Ok (first.0 ∷ more)) numbers first.2 in
     let both = one_below (length species) first.0 word words rest.0 (species_word_in-within species word first.0 first.1) (numbers_below species words rest.0 rest.1) in
-    let made : first.0 ∷ rest.0 ≡ numbers = same_value (first.0 ∷ rest.0) numbers _ refl rest.2 in
+    let made : first.0 ∷ rest.0 ≡ numbers = same_value (first.0 ∷ rest.0) numbers rest.2 in
     subst (AreBelow (length species) (word ∷ words)) made both
 
 -- a sum has a species word
@@ -66,7 +65,7 @@ both_true false b both = absurd (let no : false ≡ true = both in cc)
 
 left_value : (words : List (List ℕ)) (nothing sum : Bool) (left : List (List ℕ)) → (if nothing then Err NotInProfile else (if sum then Ok (summands words) else Err BadReaction)) ≡ Ok left → (sum ≡ true) × (summands words ≡ left)
 left_value words true sum left is = no_value NotInProfile left is
-left_value words false true left is = (refl, same_value (summands words) left (Ok (summands words)) refl is)
+left_value words false true left is = (refl, same_value (summands words) left is)
 left_value words false false left is = no_value BadReaction left is
 
 -- LEFT has one species word or two
@@ -84,7 +83,7 @@ sides_few words sides is =
     let arrow = valued (there (position is_arrow words) BadReaction) _ sides is in
     let left = valued (left_in (take arrow.0 words)) _ sides arrow.2 in
     let right = valued (right_in (drop (arrow.0 + 1) words)) _ sides left.2 in
-    subst (λ (sides : Sides). IsOneOrTwo sides.reactants) (same_value (record { reactants = left.0; products = right.0 }) sides _ refl right.2) (left_few (take arrow.0 words) left.0 left.1)
+    subst (λ (sides : Sides). IsOneOrTwo sides.reactants) (same_value (record { reactants = left.0; products = right.0 }) sides right.2) (left_few (take arrow.0 words) left.0 left.1)
 
 -- what holds of both sides of a reaction
 record AreSides (count : ℕ) (sides : List ℕ × List ℕ) : Type 0 where
@@ -105,7 +104,7 @@ sides_are species words sides is =
     let count = reactants.as_many in
     let above = few.above in
     let below = few.below in
-    subst (AreSides (length species)) (same_value (left.0, right.0) sides _ refl right.2)
+    subst (AreSides (length species)) (same_value (left.0, right.0) sides right.2)
     (record {
       order_above = omega (arith, count, above);
       order_below = omega (arith, count, below);
@@ -127,7 +126,7 @@ new_is : (known : List (List ℕ)) (word name : List ℕ) → new_name_in known 
 new_is known word name is =
     let named = held (is_name word) NotInProfile (unless (not (is_named known word)) RepeatedName ∷ []) (Ok word) name is in
     let other = held (not (is_named known word)) RepeatedName [] (Ok word) name named.1 in
-    let same : word ≡ name = same_value word name _ refl other.1 in
+    let same : word ≡ name = same_value word name other.1 in
     subst (λ (name : List ℕ). is_named known name ≡ false) same (not_false (is_named known word) other.0)
 
 pub given_is : (species known : List (List ℕ)) (line : Stated) (scheme : Scheme) → reaction_in species known line ≡ Ok scheme → IsGiven species known scheme
@@ -139,7 +138,7 @@ given_is species known line scheme is =
     let few = held (nat_le (length sides.0.1) most_products) TooMany (unless (nat_lt (length known) most_reactions) TooMany ∷ []) _ scheme sides.2 in
     let room = held (nat_lt (length known) most_reactions) TooMany [] _ scheme few.1 in
     let are = sides_are species (arranged_words line) sides.0 sides.1 in
-    subst (IsGiven species known) (same_value (record { name = name.0; reactants = sides.0.0; products = sides.0.1 }) scheme _ refl room.1)
+    subst (IsGiven species known) (same_value (record { name = name.0; reactants = sides.0.0; products = sides.0.1 }) scheme room.1)
     (record {
       new = new_is known (word_at line 1) name.0 name.1;
       room = let test = room.0 in grind (arith, nat_tests);

@@ -1,5 +1,5 @@
 -- What lines without a fault say of reactions is sound.
-use Rattle.std.proofs.Common.{◌≡◌, ℕ, zero, suc, ℤ, pos, negsuc, ◌+◌, ◌*◌, ◌%◌, ◌<◌, ◌≤◌, ◌≤ℤ◌, ◌*ℤ◌, ◌==◌, Bool, true, false, nat_le, nat_lt, List, [], ◌∷◌, ◌++◌, length, map, Option, None, Some, Result, Ok, Err, All, unsigned_abs, slice_get, slice_index_or, if◌then◌else◌, refl, sym, ◌∙◌, arith, subst, length-append}
+use Rattle.std.proofs.Common.{◌≡◌, ℕ, zero, suc, ℤ, pos, negsuc, ◌+◌, ◌*◌, ◌%◌, ◌<◌, ◌≤◌, ◌≤ℤ◌, ◌*ℤ◌, ◌==◌, Bool, true, false, nat_le, nat_lt, List, [], ◌∷◌, ◌++◌, length, map, Option, None, Some, Result, Ok, All, unsigned_abs, slice_get, slice_index_or, if◌then◌else◌, refl, sym, ◌∙◌, arith, subst, length-append}
 use Rattle.std.proofs.lemmas.Bool.Decides.{nat_tests}
 use Rattle.std.proofs.lemmas.Int.{ints, unsigned_abs-mul}
 use Rattle.std.proofs.lemmas.List.{length-map}
@@ -17,10 +17,11 @@ use Rattle.smol_types.specs.Limits.{longest, certain}
 use Rattle.smol_types.specs.Reactions.{IsPlacement, IsProduct, IsReaction}
 use Rattle.smol_line.specs.Words.{word_at}
 use Rattle.smol_line.specs.Checks.{with_value}
-use Rattle.smol_line.specs.Numbers.{decimal_in, unsigned}
+use Rattle.smol_line.specs.Numbers.{decimal_in}
 use Rattle.smol_line.specs.SpeciesWord.{number_in}
-use Rattle.smol_line.proofs.Passing.{valued, is_there}
-use Rattle.smol_line.proofs.Ranges.{decimal_in-within, number_in-within}
+use Rattle.smol_line.specs.Probability.{chance_in, whole_chance}
+use Rattle.smol_line.proofs.Passing.{valued, held, is_there, no_value, same_value, said_by}
+use Rattle.smol_line.proofs.Ranges.{decimal_in-within, number_in-within, chance_in-within, threshold_of-within}
 use Rattle.smol_reactions.specs.declared.scheme.Scheme.{Scheme}
 use Rattle.smol_reactions.specs.declared.product_placement.PlacementKind.{PlacementKind}
 use Rattle.smol_reactions.specs.declared.product_placement.PlacementKind.TheVariants as kind
@@ -29,16 +30,15 @@ use Rattle.smol_reactions.specs.declared.product_placement.ProductPlacement.TheV
 use Rattle.smol_reactions.specs.Numbered.{changed}
 use Rattle.smol_reactions.specs.Reaction.{names_of, reaction_in}
 use Rattle.smol_reactions.specs.BindingRadius.{binding_radius_in, distance_in, reaction_at}
-use Rattle.smol_reactions.specs.ReactionProbability.{chance_in, reaction_probability_in, threshold_of, whole_chance}
+use Rattle.smol_reactions.specs.ReactionProbability.{reaction_probability_in}
 use Rattle.smol_reactions.specs.ProductPlacement.{kind_in, offset_at, offset_in, placement_in, product_in, product_placement_in, species_made, takes, words_for}
 use Rattle.smol_reactions.specs.ReactionSaid.{ReactionSaid, reacts, binds, happens, places}
 use Rattle.smol_reactions.specs.Content.{kinds_of, reaction_made, reactions_of, schemes_of, usual_threshold}
 use Rattle.smol_reactions.specs.Changes.{fresh_product, fresh_reaction, with_chance, with_offset, with_placement, with_radius}
 use Rattle.smol_reactions.specs.Sound.{AreReactions, IsScheme}
-use Rattle.smol_reactions.specs.Statements.{binding_radius_said, product_placement_said, reaction_probability_said, reaction_said, say_of}
+use Rattle.smol_reactions.specs.Statements.{binding_radius_said, product_placement_said, reaction_probability_said, reaction_said}
 use Rattle.smol_reactions.proofs.Lists.{length-changed, All-changed, length-numbered}
 use Rattle.smol_reactions.proofs.MoreSaid.{chance_more, placement_more, radius_more, reaction_more}
-use Rattle.smol_reactions.proofs.Passing.{no_value, same_value, held}
 use Rattle.smol_reactions.proofs.SchemeLemmas.{given_is}
 
 -- what holds of all things holds of them behind a change of one, where it is kept there
@@ -49,11 +49,6 @@ All-changed_at P change zero (first ∷ things) thing at keeps all =
     All-cons P (change first) things (subst (λ x. P x → P (change x)) same keeps (All-head P first things all)) (All-tail P first things all)
 All-changed_at P change (suc number) (first ∷ things) thing at keeps all =
     All-cons P first (changed change number things) (All-head P first things all) (All-changed_at P change number things thing at keeps (All-tail P first things all))
-
--- the value behind what is said
-said_of : {T : Type 0} (say : T → ReactionSaid) (rule : Result T Kind) (more : ReactionSaid) → say_of say rule ≡ Ok more → (value : T) × (rule ≡ Ok value) × (say value ≡ more)
-said_of say (Ok value) more is = (value, refl, same_value (say value) more (say_of say (Ok value)) refl is)
-said_of say (Err kind) more is = no_value kind more is
 
 distance_within : (word : List ℕ) (distance : ℤ) → distance_in word ≡ Ok distance → (pos 0 ≤ℤ distance) × (unsigned_abs distance ≤ longest)
 distance_within word distance is =
@@ -78,9 +73,6 @@ radius_sound axes count radius reaction two within sound = record {
   placement = sound.placement;
 }
 
-pub threshold_fits : (chance : ℕ) → chance ≤ whole_chance → (threshold_of chance).0 ≤ certain
-threshold_fits chance fits = omega arith
-
 chance_sound : (axes count chance : ℕ) → chance ≤ whole_chance → (reaction : Reaction) → IsReaction axes count reaction → IsReaction axes count (with_chance chance reaction)
 chance_sound axes count chance fits reaction sound = record {
   order_above = sound.order_above;
@@ -92,7 +84,7 @@ chance_sound axes count chance fits reaction sound = record {
   radius_order = sound.radius_order;
   radius_above = sound.radius_above;
   radius_below = sound.radius_below;
-  threshold = threshold_fits chance fits;
+  threshold = threshold_of-within chance fits;
   placement = sound.placement;
 }
 
@@ -148,7 +140,7 @@ given_offset dims axis word ticks used is =
     let high = within.1 in
     let size : unsigned_abs micros.0 ≤ longest = omega (arith, ints) in
     let twice : unsigned_abs (pos 2 *ℤ micros.0) ≡ 2 * unsigned_abs micros.0 = unsigned_abs-mul (pos 2) micros.0 in
-    subst (IsOffsetAt dims axis) (same_value (pos 2 *ℤ micros.0) ticks (in_ticks micros.0) refl micros.2)
+    subst (IsOffsetAt dims axis) (same_value (pos 2 *ℤ micros.0) ticks micros.2)
     (record {
       even = doubled_even (unsigned_abs (pos 2 *ℤ micros.0)) (unsigned_abs micros.0) twice;
       size = omega (arith, twice, size);
@@ -160,7 +152,7 @@ no_offset_at dims axis ticks is = subst (IsOffsetAt dims axis) is (record { even
 
 chosen_offset : (used : Bool) (dims axis : ℕ) (word : List ℕ) (ticks : ℤ) → used ≡ nat_lt axis dims → (if used then with_value (decimal_in 6 (negsuc 999999999) (pos longest) word) in_ticks else Ok (pos 0)) ≡ Ok ticks → IsOffsetAt dims axis ticks
 chosen_offset true dims axis word ticks used is = given_offset dims axis word ticks (grind (arith, nat_tests)) is
-chosen_offset false dims axis word ticks used is = no_offset_at dims axis ticks (same_value (pos 0) ticks (Ok (pos 0)) refl is)
+chosen_offset false dims axis word ticks used is = no_offset_at dims axis ticks (same_value (pos 0) ticks is)
 
 offset_at_sound : (dims axis : ℕ) (line : Stated) (ticks : ℤ) → offset_at dims axis line ≡ Ok ticks → IsOffsetAt dims axis ticks
 offset_at_sound dims axis line ticks is = chosen_offset (nat_lt axis dims) dims axis (word_at line (4 + axis)) ticks refl is
@@ -181,7 +173,7 @@ offset_sound dims line offset is =
     let a = offset_at_sound dims 0 line x.0 x.1 in
     let b = offset_at_sound dims 1 line y.0 y.1 in
     let c = offset_at_sound dims 2 line z.0 z.1 in
-    subst (IsOffset dims) (same_value (record { 0 = x.0 ∷ y.0 ∷ z.0 ∷ [] }) offset _ refl z.2)
+    subst (IsOffset dims) (same_value (record { 0 = x.0 ∷ y.0 ∷ z.0 ∷ [] }) offset z.2)
     (record {
       axes = refl;
       even = (a.even, b.even, c.even);
@@ -240,14 +232,14 @@ unfolding placement_in
 placement_keeps kind.Offset dims count species line given reaction is sound =
     let product = valued (product_in species (species_made reaction.products) (word_at line 3)) _ given is in
     let offset = valued (offset_in dims line) _ given product.2 in
-    subst (λ given. IsReaction dims count (with_placement given reaction)) (same_value (placement.Offset product.0 offset.0) given _ refl offset.2)
+    subst (λ given. IsReaction dims count (with_placement given reaction)) (same_value (placement.Offset product.0 offset.0) given offset.2)
     (offset_keeps dims count product.0 offset.0 reaction (offset_sound dims line offset.0 offset.1) sound)
 placement_keeps kind.Unbindrad dims count species line given reaction is sound =
     let two = held (length (species_made reaction.products) == 2) BadReaction [] _ given is in
     let distance = valued (distance_in (word_at line 3)) _ given two.1 in
     let many : length (species_made reaction.products) ≡ length reaction.products = length-map reaction.products (λ (product : Product). product.species) in
     let count_is : length reaction.products ≡ 2 = let test = two.0 in grind (arith, nat_tests) in
-    subst (λ given. IsReaction dims count (with_placement given reaction)) (same_value (placement.Unbind distance.0) given _ refl distance.2)
+    subst (λ given. IsReaction dims count (with_placement given reaction)) (same_value (placement.Unbind distance.0) given distance.2)
     (unbind_keeps dims count distance.0 reaction count_is (distance_within (word_at line 3) distance.0 distance.1) sound)
 
 names_many : (said : List ReactionSaid) → length (names_of (reactions_of said)) ≡ length (schemes_of said)
@@ -273,7 +265,7 @@ reacts_keeps dims species said line scheme rule sound =
 
 pub reaction_keeps : (dims : Option ℕ) (species : List (List ℕ)) (said : List ReactionSaid) (line : Stated) (more : ReactionSaid) → reaction_said species said line ≡ Ok more → AreReactions dims (length species) said → AreReactions dims (length species) (more ∷ said)
 reaction_keeps dims species said line more is sound =
-    let by = said_of reacts (reaction_in species (names_of (reactions_of said)) line) more is in
+    let by = said_by reacts (reaction_in species (names_of (reactions_of said)) line) more is in
     subst (λ more. AreReactions dims (length species) (more ∷ said)) by.2 (reacts_keeps dims species said line by.0 by.1 sound)
 
 -- what holds where a radius is given
@@ -292,7 +284,7 @@ is_radius said line given is =
     let reaction = valued (reaction_at (reactions_of said) number.0) _ given number.2 in
     let two = held (reaction.0.order == 2) BadReaction [] _ given reaction.2 in
     let radius = valued (distance_in (word_at line 2)) _ given two.1 in
-    subst (λ (given : ℕ × Micro). IsRadius said given.0 given.1) (same_value (number.0, record { 0 = radius.0 }) given _ refl radius.2)
+    subst (λ (given : ℕ × Micro). IsRadius said given.0 given.1) (same_value (number.0, record { 0 = radius.0 }) given radius.2)
     (record {
       below = number_behind said (word_at line 1) number.0 number.1;
       reaction = reaction.0;
@@ -303,7 +295,7 @@ is_radius said line given is =
 
 pub binding_radius_keeps : (dims : Option ℕ) (count : ℕ) (said : List ReactionSaid) (line : Stated) (more : ReactionSaid) → binding_radius_said said line ≡ Ok more → AreReactions dims count said → AreReactions dims count (more ∷ said)
 binding_radius_keeps dims count said line more is sound =
-    let by = said_of (λ given. binds given.0 given.1) (binding_radius_in (reactions_of said) line) more is in
+    let by = said_by (λ given. binds given.0 given.1) (binding_radius_in (reactions_of said) line) more is in
     let given = is_radius said line by.0 by.1 in
     subst (λ more. AreReactions dims count (more ∷ said)) by.2
     (record {
@@ -313,19 +305,6 @@ binding_radius_keeps dims count said line more is sound =
           (All-changed_at (IsReaction axes count) (with_radius by.0.1) by.0.0 (reactions_of said) given.reaction given.at
           (radius_sound axes count by.0.1 given.reaction given.two given.within) (sound.all axes fits));
     })
-
-unsigned_within : (most : ℕ) (value : Result ℤ Kind) (n : ℕ) → ((x : ℤ) → value ≡ Ok x → (pos 0 ≤ℤ x) × (x ≤ℤ pos most)) → unsigned value ≡ Ok n → n ≤ most
-unsigned_within most (Ok x) n within is =
-    let range = within x refl in
-    let low = range.0 in
-    let high = range.1 in
-    let same : unsigned_abs x ≡ n = same_value (unsigned_abs x) n (unsigned (Ok x)) refl is in
-    omega (arith, ints, same)
-unsigned_within most (Err kind) n within is = no_value kind n is
-
-chance_within : (word : List ℕ) (chance : ℕ) → chance_in word ≡ Ok chance → chance ≤ whole_chance
-chance_within word chance is =
-    unsigned_within whole_chance (decimal_in 9 (pos 0) (pos whole_chance) word) chance (decimal_in-within 9 (pos 0) (pos whole_chance) word) is
 
 record IsChance (said : List ReactionSaid) (number chance : ℕ) : Type 0 where
   below : number < length (schemes_of said)
@@ -337,12 +316,12 @@ is_chance said line given is =
     let words = held (length (words_of line) == 3) WrongWordCount [] _ given is in
     let number = valued (number_in (names_of (reactions_of said)) (word_at line 1)) _ given words.1 in
     let chance = valued (chance_in (word_at line 2)) _ given number.2 in
-    subst (λ (given : ℕ × ℕ). IsChance said given.0 given.1) (same_value (number.0, chance.0) given _ refl chance.2)
-    (record { below = number_behind said (word_at line 1) number.0 number.1; within = chance_within (word_at line 2) chance.0 chance.1 })
+    subst (λ (given : ℕ × ℕ). IsChance said given.0 given.1) (same_value (number.0, chance.0) given chance.2)
+    (record { below = number_behind said (word_at line 1) number.0 number.1; within = chance_in-within (word_at line 2) chance.0 chance.1 })
 
 pub reaction_probability_keeps : (dims : Option ℕ) (count : ℕ) (said : List ReactionSaid) (line : Stated) (more : ReactionSaid) → reaction_probability_said said line ≡ Ok more → AreReactions dims count said → AreReactions dims count (more ∷ said)
 reaction_probability_keeps dims count said line more is sound =
-    let by = said_of (λ given. happens given.0 given.1) (reaction_probability_in (reactions_of said) line) more is in
+    let by = said_by (λ given. happens given.0 given.1) (reaction_probability_in (reactions_of said) line) more is in
     let given = is_chance said line by.0 by.1 in
     subst (λ more. AreReactions dims count (more ∷ said)) by.2
     (record {
@@ -369,7 +348,7 @@ placed_in dims count species said line given is =
     let reaction = valued (reaction_at (reactions_of said) number.0) _ given number.2 in
     let taken = held (takes (slice_index_or (kinds_of said) number.0 None) wanted.0) BadReaction [] _ given reaction.2 in
     let placement = valued (placement_in wanted.0 dims species (species_made reaction.0.products) line) _ given taken.1 in
-    subst (λ (given : ℕ × ProductPlacement). IsPlaced dims count said given.0 given.1) (same_value (number.0, placement.0) given _ refl placement.2)
+    subst (λ (given : ℕ × ProductPlacement). IsPlaced dims count said given.0 given.1) (same_value (number.0, placement.0) given placement.2)
     (record {
       below = number_behind said (word_at line 1) number.0 number.1;
       reaction = reaction.0;
@@ -394,10 +373,10 @@ no_dims species said line given P is = no_value BadOrder given is
 
 pub product_placement_keeps : (dims : Option ℕ) (count : ℕ) (species : List (List ℕ)) (said : List ReactionSaid) (line : Stated) (more : ReactionSaid) → product_placement_said dims species said line ≡ Ok more → AreReactions dims count said → AreReactions dims count (more ∷ said)
 product_placement_keeps (Some dims) count species said line more is sound =
-    let by = said_of (λ given. places given.0 given.1) (product_placement_in (Some dims) species (reactions_of said) (kinds_of said) line) more is in
+    let by = said_by (λ given. places given.0 given.1) (product_placement_in (Some dims) species (reactions_of said) (kinds_of said) line) more is in
     subst (λ more. AreReactions (Some dims) count (more ∷ said)) by.2 (places_keeps dims count species said line by.0 by.1 sound)
 product_placement_keeps None count species said line more is sound =
-    let by = said_of (λ given. places given.0 given.1) (product_placement_in None species (reactions_of said) (kinds_of said) line) more is in
+    let by = said_by (λ given. places given.0 given.1) (product_placement_in None species (reactions_of said) (kinds_of said) line) more is in
     no_dims species said line by.0 _ by.1
 
 -- nothing that is said is sound

@@ -5,11 +5,11 @@ use Rattle.smol_num.specs.declared.quantities.Micro.{Micro}
 use Rattle.smol_types.specs.declared.reaction.Placement.TheVariants.{Offsets, Unbind}
 use Rattle.smol_types.specs.declared.reaction.Product.{Product}
 use Rattle.smol_types.specs.declared.reaction.Reaction.{Reaction}
+use Rattle.smol_line.specs.Probability.{threshold_of}
 use Rattle.smol_reactions.specs.declared.scheme.Scheme.{Scheme}
 use Rattle.smol_reactions.specs.declared.product_placement.ProductPlacement.{ProductPlacement}
 use Rattle.smol_reactions.specs.declared.product_placement.ProductPlacement.TheVariants as placement
 use Rattle.smol_reactions.specs.Numbered.{changed}
-use Rattle.smol_reactions.specs.ReactionProbability.{threshold_of}
 use Rattle.smol_reactions.specs.Content.{no_offset, usual_threshold}
 
 -- a product before any line gives its offset

@@ -9,13 +9,14 @@ use Rattle.smol_types.specs.declared.reaction.Product.{Product}
 use Rattle.smol_types.specs.declared.reaction.Reaction.{Reaction}
 use Rattle.smol_types.specs.Limits.{certain}
 use Rattle.smol_types.specs.Reactions.{reacts_alone}
+use Rattle.smol_line.specs.LookingBack.{nearest}
+use Rattle.smol_line.specs.Probability.{threshold_of, whole_chance}
 use Rattle.smol_reactions.specs.declared.scheme.Scheme.{Scheme}
 use Rattle.smol_reactions.specs.declared.product_placement.PlacementKind.{PlacementKind}
 use Rattle.smol_reactions.specs.declared.product_placement.PlacementKind.TheVariants as kind
 use Rattle.smol_reactions.specs.declared.product_placement.ProductPlacement.{ProductPlacement}
 use Rattle.smol_reactions.specs.declared.product_placement.ProductPlacement.TheVariants as placement
-use Rattle.smol_reactions.specs.Numbered.{numbered, nearest}
-use Rattle.smol_reactions.specs.ReactionProbability.{threshold_of, whole_chance}
+use Rattle.smol_reactions.specs.Numbered.{numbered}
 use Rattle.smol_reactions.specs.ReactionSaid.{ReactionSaid, reacts, binds, happens, places}
 
 -- the reactions that these say, in the order of their lines

@@ -1,4 +1,3 @@
-pub mod Answers
 pub mod Arrangement
 pub mod Numbered
 pub mod Reaction

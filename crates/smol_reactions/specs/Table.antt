@@ -1,9 +1,9 @@
 -- What a reader keeps of reactions. This is no part of what a text means.
-use Rattle.std.specs.Prelude.{◌≡◌, ◌≤◌, List, ◌∷◌, length, All, Result, Ok, Err}
+use Rattle.std.specs.Prelude.{◌≡◌, ◌≤◌, List, length, All, Result}
 use Rattle.smol_types.specs.declared.fault.Kind.{Kind}
 use Rattle.smol_types.specs.Limits.{most_reactions}
 use Rattle.smol_line.specs.declared.refusal.Refusal.{Refusal}
-use Rattle.smol_line.specs.declared.refusal.Refusal.TheVariants.{At, OutOfMemory}
+use Rattle.smol_line.specs.LookingBack.{Reads as ReadsLine}
 use Rattle.smol_reactions.specs.declared.reactions.Reactions.{Reactions}
 use Rattle.smol_reactions.specs.Reaction.{names_of, HasFewProducts}
 use Rattle.smol_reactions.specs.ReactionSaid.{ReactionSaid}
@@ -27,7 +27,4 @@ pub record IsKept (table : Reactions) : Type 0 where
 
 -- how the reading of a line ends: it is taken and the table holds what it says too, or its fault is told, or memory ran out
 abbrev pub Reads : {T : Type 0} → (List ReactionSaid → Result ReactionSaid Kind) → Reactions → Reactions → Result T Refusal → Type 0
-Reads rule old new (Ok done) = (said : List ReactionSaid) → Holds old said → (more : ReactionSaid)
-    × (rule said ≡ Ok more) × Holds new (more ∷ said)
-Reads rule old new (Err (At kind)) = (said : List ReactionSaid) → Holds old said → rule said ≡ Err kind
-Reads rule old new (Err OutOfMemory) = Unit {0}
+Reads rule old new result = ReadsLine Holds rule old new result

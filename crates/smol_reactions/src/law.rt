@@ -3,7 +3,7 @@ ghost use Rattle.std.specs.Prelude.{◌≡◌, ◌≤◌, ◌∷◌, ℕ, List, 
 ghost use Rattle.smol_text.specs.Reading.{Stated};
 ghost use Rattle.smol_types.specs.Limits.{certain};
 ghost use Rattle.smol_types.specs.Reactions.{share_of};
-ghost use Rattle.smol_reactions.specs.ReactionProbability.{whole_chance};
+ghost use Rattle.smol_line.specs.Probability.{whole_chance};
 ghost use Rattle.smol_reactions.specs.ReactionSaid.{ReactionSaid};
 ghost use Rattle.smol_reactions.specs.Content.{chance_sum, chances_of, reactions_of};
 ghost use Rattle.smol_reactions.specs.Sound.{AreReactions};

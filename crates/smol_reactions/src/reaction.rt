@@ -2,9 +2,9 @@
 ghost use Rattle.std.specs.Prelude.{◌≡◌, ◌≤◌, ◌<◌, ◌++◌, ◌∷◌, [], false, length, slice_range, OnOk, IfOk, MatchResult, All};
 ghost use Rattle.smol_text.specs.Reading.{words_of};
 ghost use Rattle.smol_types.specs.Limits.{most_species, most_products, most_reactions};
+ghost use Rattle.smol_line.specs.Answers.{Answers};
 ghost use Rattle.smol_line.specs.Names.{is_named};
 ghost use Rattle.smol_line.specs.SpeciesWord.{species_word_in};
-ghost use Rattle.smol_reactions.specs.Answers.{Answers};
 ghost use Rattle.smol_reactions.specs.Arrangement.{summands};
 ghost use Rattle.smol_reactions.specs.Sound.{IsScheme};
 ghost use Rattle.smol_reactions.specs.Reaction.{arranged_words, numbers_in, reaction_in, sides_in};

@@ -24,7 +24,7 @@ const CERTAIN: Threshold = Threshold(4_294_967_296);
 /// One whole, in billionths.
 const WHOLE_CHANCE: u64 = 1_000_000_000;
 
-/// The reactions that the lines read so far say_of, each with what they say_of of it.
+/// The reactions that the lines read so far say, each with what they say of it.
 #[derive(Drop)]
 pub struct Reactions {
     pub names: NameSet,

@@ -1,6 +1,7 @@
 use Rattle.std.proofs.Common.{sym, ap}
 use Rattle.std.proofs.lemmas.Result.{err_from_is_err_and}
-use Rattle.smol_blocks.specs.Surface.{acts, say, surface_line_in}
+use Rattle.smol_line.specs.LookingBack.{say}
+use Rattle.smol_blocks.specs.Surface.{acts, surface_line_in}
 use Rattle.smol_blocks.proofs.SurfaceHeld.{acts_held}
 use Rattle.smol_blocks.proofs.surface_table.SurfaceTable.read_action.Goals as goal
 

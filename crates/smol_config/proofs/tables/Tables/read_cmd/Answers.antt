@@ -1,6 +1,7 @@
 use Rattle.std.proofs.Common.{ap, ◌∙◌}
 use Rattle.std.proofs.lemmas.Result.{err_from_is_err_and}
-use Rattle.smol_config.specs.Said.{performs, say}
+use Rattle.smol_line.specs.LookingBack.{say}
+use Rattle.smol_config.specs.Said.{performs}
 use Rattle.smol_config.specs.Reader.{statement_in}
 use Rattle.smol_config.proofs.Held.{commands_held, cmd_refused, cmd_rule}
 use Rattle.smol_config.proofs.tables.Tables.read_cmd.Goals as goal

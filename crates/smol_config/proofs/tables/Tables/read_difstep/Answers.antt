@@ -1,6 +1,7 @@
 use Rattle.std.proofs.Common.{sym, ap}
 use Rattle.std.proofs.lemmas.Result.{err_from_is_err_and}
-use Rattle.smol_config.specs.Said.{moves, say}
+use Rattle.smol_line.specs.LookingBack.{say}
+use Rattle.smol_config.specs.Said.{moves}
 use Rattle.smol_config.specs.Reader.{statement_in}
 use Rattle.smol_config.proofs.Held.{motions_held}
 use Rattle.smol_config.proofs.tables.Tables.read_difstep.Goals as goal

@@ -1,8 +1,9 @@
 use Rattle.std.proofs.Common.{sym, ap, ◌∙◌}
 use Rattle.std.proofs.lemmas.Result.{err_from_is_err_and}
 use Rattle.smol_line.specs.declared.axes.Axes.{Axes}
+use Rattle.smol_line.specs.LookingBack.{say}
 use Rattle.smol_config.specs.Dim.{dim_in}
-use Rattle.smol_config.specs.Said.{axes, say}
+use Rattle.smol_config.specs.Said.{axes}
 use Rattle.smol_config.specs.Reader.{statement_in}
 use Rattle.smol_config.proofs.Held.{axes_held}
 use Rattle.smol_config.proofs.tables.Tables.read_dim.Goals as goal

@@ -1,6 +1,7 @@
 use Rattle.std.proofs.Common.{sym, ap, ◌∙◌}
 use Rattle.std.proofs.lemmas.Result.{err_from_is_err_and}
-use Rattle.smol_config.specs.Said.{places, say}
+use Rattle.smol_line.specs.LookingBack.{say}
+use Rattle.smol_config.specs.Said.{places}
 use Rattle.smol_config.specs.Reader.{statement_in}
 use Rattle.smol_config.proofs.Held.{placings_held, mol_rule}
 use Rattle.smol_config.proofs.tables.Tables.read_mol.Goals as goal

@@ -1,7 +1,8 @@
 use Rattle.std.proofs.Common.{◌≡◌, sym, ap, ◌∙◌, arith, to_z, of_z, w64}
 use Rattle.std.proofs.lemmas.Int.{ints}
 use Rattle.std.proofs.lemmas.Result.{err_from_is_err_and}
-use Rattle.smol_config.specs.Said.{stops, say}
+use Rattle.smol_line.specs.LookingBack.{say}
+use Rattle.smol_config.specs.Said.{stops}
 use Rattle.smol_config.specs.Times.{time_in}
 use Rattle.smol_config.specs.Reader.{statement_in}
 use Rattle.smol_config.proofs.Held.{stop_held}

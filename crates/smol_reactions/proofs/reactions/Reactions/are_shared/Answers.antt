@@ -1,6 +1,6 @@
 use Rattle.std.proofs.Common.{◌≡◌, ℕ, ◌+◌, ◌-◌, ◌<◌, sym, ap, ◌∙◌, arith, subst}
+use Rattle.smol_line.specs.Probability.{whole_chance}
 use Rattle.smol_reactions.specs.Content.{are_shared, chance_sum}
-use Rattle.smol_reactions.specs.ReactionProbability.{whole_chance}
 use Rattle.smol_reactions.proofs.Chances.{unshared}
 use Rattle.smol_reactions.proofs.reactions.Reactions.are_shared.Goals as goal
 

@@ -1,9 +1,9 @@
 use Rattle.std.proofs.Common.{◌≤◌, ℕ, subst, refl, sym, ap, ◌∙◌}
 use Rattle.smol_types.specs.Limits.{most_reactions}
+use Rattle.smol_line.specs.LookingBack.{say}
 use Rattle.smol_reactions.specs.BindingRadius.{binding_radius_in}
 use Rattle.smol_reactions.specs.Numbered.{changed}
 use Rattle.smol_reactions.specs.ReactionSaid.{binds}
-use Rattle.smol_reactions.specs.Statements.{say_of}
 use Rattle.smol_reactions.specs.Changes.{with_radius}
 use Rattle.smol_reactions.specs.Content.{reactions_of}
 use Rattle.smol_reactions.proofs.TableLemmas.{alike, number_said}
@@ -31,7 +31,7 @@ returns-clause-reads c said holds =
     let list = c.as_slice.ensures.value ∙ holds.list in
     let is = c.set_radius.ensures ∙ ap (changed (with_radius radius) c.from.result) holds.list ∙ ap (λ (n : ℕ). changed (with_radius radius) n (reactions_of said)) c.from.ensures in (
       binds number radius,
-      ap (say_of (λ given. binds given.0 given.1)) (ap (λ reactions. binding_radius_in reactions c.args.line.now) (sym list) ∙ sym c.in_ok-number.ensures.rule),
+      ap (say (λ given. binds given.0 given.1)) (ap (λ reactions. binding_radius_in reactions c.args.line.now) (sym list) ∙ sym c.in_ok-number.ensures.rule),
       record {
         list = is ∙ sym (radius_more said number radius);
         kinds = holds.kinds;

@@ -1,9 +1,9 @@
 use Rattle.std.proofs.Common.{Some, ◌≤◌, ℕ, length, subst, sym, ap, ◌∙◌}
 use Rattle.smol_types.specs.Limits.{most_reactions}
+use Rattle.smol_line.specs.LookingBack.{say}
 use Rattle.smol_reactions.specs.ProductPlacement.{product_placement_in}
 use Rattle.smol_reactions.specs.Numbered.{changed}
 use Rattle.smol_reactions.specs.ReactionSaid.{places}
-use Rattle.smol_reactions.specs.Statements.{say_of}
 use Rattle.smol_reactions.specs.Changes.{with_placement}
 use Rattle.smol_reactions.specs.Content.{kinds_of, reactions_of}
 use Rattle.smol_reactions.proofs.Lists.{length-changed}
@@ -40,7 +40,7 @@ returns-clause-reads c said holds =
     ∙ ap (λ kinds. product_placement_in c.args.dims c.args.species.now c.as_slice.result.now kinds c.args.line.now) (sym kinds)
     ∙ sym c.in_ok-number.ensures.rule in (
       places number placement,
-      ap (say_of (λ given. places given.0 given.1)) rule,
+      ap (say (λ given. places given.0 given.1)) rule,
       record {
         list = is ∙ sym (placement_more said number placement);
         kinds = kind ∙ sym (kinds_more said number placement);

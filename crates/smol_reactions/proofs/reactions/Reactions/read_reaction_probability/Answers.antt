@@ -1,9 +1,9 @@
 use Rattle.std.proofs.Common.{Some, ◌≤◌, ℕ, length, subst, refl, sym, ap, ◌∙◌}
 use Rattle.smol_types.specs.Limits.{most_reactions}
+use Rattle.smol_line.specs.LookingBack.{say}
 use Rattle.smol_reactions.specs.ReactionProbability.{reaction_probability_in}
 use Rattle.smol_reactions.specs.Numbered.{changed}
 use Rattle.smol_reactions.specs.ReactionSaid.{happens}
-use Rattle.smol_reactions.specs.Statements.{say_of}
 use Rattle.smol_reactions.specs.Changes.{with_chance}
 use Rattle.smol_reactions.specs.Content.{chances_of, reactions_of}
 use Rattle.smol_reactions.proofs.Lists.{length-changed}
@@ -32,7 +32,7 @@ returns-clause-reads c said holds =
     let list = c.as_slice.ensures.value ∙ holds.list in
     let is = c.set_chance.ensures ∙ ap (changed (with_chance chance) c.from.result) holds.list ∙ ap (λ (n : ℕ). changed (with_chance chance) n (reactions_of said)) c.from.ensures in (
       happens number chance,
-      ap (say_of (λ given. happens given.0 given.1)) (ap (λ reactions. reaction_probability_in reactions c.args.line.now) (sym list) ∙ sym c.in_ok-number.ensures.rule),
+      ap (say (λ given. happens given.0 given.1)) (ap (λ reactions. reaction_probability_in reactions c.args.line.now) (sym list) ∙ sym c.in_ok-number.ensures.rule),
       record {
         list = is ∙ sym (chance_more said number chance);
         kinds = holds.kinds;
