@@ -1,5 +1,5 @@
 //! The surface and the panels that come of a surface's block.
-ghost use Rattle.std.specs.Prelude.{◌≡◌, ◌+◌, ◌++◌, ◌<◌, ◌≤◌, ◌^◌, ℕ, List, length, IfSome, OnOk};
+ghost use Rattle.std.specs.Prelude.{◌≡◌, ◌+◌, ◌++◌, ◌<◌, ◌≤◌, ◌^◌, List, length, IfSome, OnOk};
 ghost use Rattle.smol_types.specs.Limits.{most_panels};
 ghost use Rattle.smol_blocks.specs.Surface.{SurfaceSaid};
 ghost use Rattle.smol_blocks.specs.SurfaceTable.{ArePaired, Holds};

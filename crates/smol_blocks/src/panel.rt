@@ -1,7 +1,7 @@
 //! `panel SHAPE SIGNEDAXIS CORNER ... EDGE ... [NAME]`: a rectangle across an axis.
 ghost use Rattle.std.specs.Prelude.{◌≡◌, ◌≤◌, ◌<◌, ◌+ℤ◌, IfOk, unsigned_abs};
 ghost use Rattle.smol_line.specs.Length.{most_micros};
-ghost use Rattle.smol_blocks.specs.Panel.{corner_in, edge_in, edge_place, extent_in, facing_in, is_shape, plain_count, rect_in, shape_in, sign_of, ticks};
+ghost use Rattle.smol_blocks.specs.Panel.{corner_in, edge_in, edge_place, extent_in, facing_in, is_shape, rect_in, shape_in, sign_of, ticks};
 
 use smol_geom::Rect;
 use smol_line::{axis_in, decimal_in, micros_in, spells, unless, word_at};

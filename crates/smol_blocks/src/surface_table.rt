@@ -1,5 +1,5 @@
 //! What the lines of a surface's block give.
-ghost use Rattle.std.specs.Prelude.{◌≡◌, ◌+◌, ◌≤◌, [], length, IfOk, OnOk};
+ghost use Rattle.std.specs.Prelude.{◌+◌, ◌≤◌, [], length, IfOk, OnOk};
 ghost use Rattle.smol_types.specs.Limits.{most_panels, most_species};
 ghost use Rattle.smol_blocks.specs.declared.surface_statement.SurfaceStatement.TheVariants as statement;
 

@@ -1,5 +1,5 @@
 //! The text of an `echo`.
-ghost use Rattle.std.specs.Prelude.{◌≡◌, ◌≤◌, ◌-◌, ◌++◌, not, false, length, position, None, Some, MatchOption, IfOk, OnOk, OnErr};
+ghost use Rattle.std.specs.Prelude.{◌≡◌, ◌-◌, ◌++◌, false, position, None, Some, MatchOption, IfOk, OnOk};
 ghost use Rattle.smol_text.specs.Lines.{separates};
 ghost use Rattle.smol_cmd.specs.Echo.{behind_words, from_word, is_of_word, is_quoted, meant_by, past_word, quoted_in, rest_behind, spelled, without_end};
 

@@ -1,9 +1,8 @@
 //! The whole reader.
-ghost use Rattle.std.specs.Prelude.{◌≡◌, [], List, Ok, IfOk, IfErr};
-ghost use Rattle.smol_text.specs.Reading.{TellsLines, statements_of};
+ghost use Rattle.std.specs.Prelude.{◌≡◌, List, Ok, IfOk, IfErr};
 ghost use Rattle.smol_text.specs.Spans.{stated_lines};
 ghost use Rattle.smol_line.specs.Fault.{Tells};
-ghost use Rattle.smol_config.specs.Reader.{config_from, config_of, lines_in};
+ghost use Rattle.smol_config.specs.Reader.{config_from, config_of};
 ghost use Rattle.smol_config.specs.Said.{Said};
 ghost use Rattle.smol_config.specs.Tables.{Holds, IsReached};
 ghost use Rattle.smol_config.specs.Whole.{whole_in};

@@ -1,6 +1,5 @@
 //! `species NAME ...`: the names of species, in order.
-ghost use Rattle.std.specs.Prelude.{◌≡◌, ◌≤◌, ◌++◌, ◌∷◌, [], ℕ, List, None, Some, length, take, drop, slice_index_or, OnOk, Ok, Err};
-ghost use Rattle.smol_text.specs.Reading.{words_of};
+ghost use Rattle.std.specs.Prelude.{◌≡◌, ◌++◌, ◌∷◌, [], ℕ, List, None, Some, slice_index_or, OnOk, Ok, Err};
 ghost use Rattle.smol_types.specs.declared.fault.Kind.{Kind as TheKind};
 ghost use Rattle.smol_line.specs.declared.refusal.Refusal.TheVariants.{At};
 ghost use Rattle.smol_line.specs.Names.{names_fault};

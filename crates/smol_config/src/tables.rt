@@ -1,6 +1,6 @@
 //! What the lines read so far give.
-ghost use Rattle.std.specs.Prelude.{◌≡◌, ◌≤◌, [], length};
-ghost use Rattle.smol_types.specs.Limits.{most_compartments, most_outputs, most_species};
+ghost use Rattle.std.specs.Prelude.{◌≤◌, [], length};
+ghost use Rattle.smol_types.specs.Limits.{most_species};
 ghost use Rattle.smol_config.specs.declared.statement.Statement.TheVariants as statement;
 
 use crate::species_table::SpeciesTable;
@@ -34,7 +34,6 @@ pub struct Tables {
 impl Tables {
     ghost use Rattle.smol_config.specs.Reader.{line_in, statement_in};
     ghost use Rattle.smol_config.specs.Tables.{AreReady, Holds, IsInPlace, IsOutside, Reads};
-    ghost use Rattle.smol_blocks.specs.BlocksTable.{IsKept as AreBlocksKept};
     ghost use Rattle.smol_reactions.specs.Table.{IsKept};
 
     /// Nothing given.

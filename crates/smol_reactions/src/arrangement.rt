@@ -1,5 +1,5 @@
 //! How the words of a reaction are arranged: LEFT -> RIGHT, each side species words joined by `+`.
-ghost use Rattle.std.specs.Prelude.{◌≡◌, ◌≤◌, ◌<◌, ◌-◌, ℕ, List, None, Some, Ok, Err, drop, length, position, slice_range, MatchOption, MatchResult, IfOk, IfSome};
+ghost use Rattle.std.specs.Prelude.{◌≡◌, ◌≤◌, ◌<◌, ◌-◌, None, Some, Ok, Err, length, position, slice_range, MatchOption, MatchResult, IfOk, IfSome};
 ghost use Rattle.smol_text.specs.Reading.{words_of};
 ghost use Rattle.smol_reactions.specs.Arrangement.{Sides, is_arrow, is_nothing, is_plus, is_right, is_rated, is_sum, is_zero, left_in, right_in, stands_for_rate, stands_for_species, summands};
 ghost use Rattle.smol_reactions.specs.Arrangement.{arrangement_in};

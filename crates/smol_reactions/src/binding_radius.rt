@@ -1,5 +1,5 @@
 //! `binding_radius REACTION V`: how far apart the two reactants of a reaction may be.
-ghost use Rattle.std.specs.Prelude.{◌≡◌, ◌≤◌, ◌<◌, ◌^◌, length, Ok, Err, IfOk};
+ghost use Rattle.std.specs.Prelude.{◌≡◌, ◌≤◌, ◌<◌, length, Ok, IfOk};
 ghost use Rattle.smol_types.specs.Limits.{most_reactions};
 ghost use Rattle.smol_reactions.specs.Reaction.{names_of};
 ghost use Rattle.smol_reactions.specs.BindingRadius.{binding_radius_in, distance_in};

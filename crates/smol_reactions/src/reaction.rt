@@ -1,7 +1,7 @@
 //! `reaction NAME LEFT -> RIGHT`: a reaction of one species or two, and what it makes.
-ghost use Rattle.std.specs.Prelude.{◌≡◌, ◌≤◌, ◌<◌, ◌++◌, ◌∷◌, [], false, length, slice_range, OnOk, IfOk, MatchResult, All};
+ghost use Rattle.std.specs.Prelude.{◌≡◌, ◌≤◌, ◌<◌, false, length, slice_range, OnOk, IfOk};
 ghost use Rattle.smol_text.specs.Reading.{words_of};
-ghost use Rattle.smol_types.specs.Limits.{most_species, most_products, most_reactions};
+ghost use Rattle.smol_types.specs.Limits.{most_species, most_reactions};
 ghost use Rattle.smol_line.specs.Answers.{Answers};
 ghost use Rattle.smol_line.specs.Names.{is_named};
 ghost use Rattle.smol_line.specs.SpeciesWord.{species_word_in};

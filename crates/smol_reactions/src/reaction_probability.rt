@@ -1,7 +1,7 @@
 //! `reaction_probability REACTION P`: how likely a reaction is, as the share of the random words that let it happen.
-ghost use Rattle.std.specs.Prelude.{◌≡◌, ◌≤◌, ◌<◌, ◌^◌, length, Ok, Err, IfOk};
+ghost use Rattle.std.specs.Prelude.{◌≡◌, ◌≤◌, ◌<◌, length, Ok, IfOk};
 ghost use Rattle.smol_types.specs.Limits.{most_reactions};
-ghost use Rattle.smol_line.specs.Probability.{threshold_of, whole_chance};
+ghost use Rattle.smol_line.specs.Probability.{threshold_of};
 ghost use Rattle.smol_reactions.specs.Reaction.{names_of};
 ghost use Rattle.smol_reactions.specs.ReactionProbability.{reaction_probability_in};
 
