@@ -13,27 +13,27 @@ use Rattle.smol_line.specs.Words.{word_at}
 use Rattle.smol_line.proofs.Passing.{valued, held, no_value, same_value}
 use Rattle.smol_line.proofs.Ranges.{decimal_in-within}
 use Rattle.smol_blocks.specs.declared.panel.Facing.{Facing}
-use Rattle.smol_blocks.specs.BlocksSound.{IsPanelRect}
-use Rattle.smol_blocks.specs.Panel.{Named, corner_in, edge_in, edge_place, extent_in, facing_in, facing_of, is_shape, name_in, panel_in, rect_in, shape_in, sign_of, ticks}
+use Rattle.smol_blocks.specs.BlocksSound.{IsPanelRectIn}
+use Rattle.smol_blocks.specs.Panel.{Named, corner_in, edge_in, edge_place, extent_in, facing_in, facing_of, is_shape, name_in, panel_in, rect_in, shape_in, sign_of, ticks_of}
 use Rattle.smol_blocks.proofs.SoundValues.{is_below}
 
 -- the ends of a rectangle on an axis, by its corner and by how far it reaches
 record IsReach (dims across axis : ℕ) (corner extent : ℤ) : Type 0 where
-  low_size : unsigned_abs (ticks corner) ≤ farthest
-  high_size : unsigned_abs (ticks (corner +ℤ extent)) ≤ farthest
-  low_even : IsEven (ticks corner)
-  high_even : IsEven (ticks (corner +ℤ extent))
-  low_unused : dims ≤ axis → ticks corner ≡ pos 0
-  high_unused : dims ≤ axis → ticks (corner +ℤ extent) ≡ pos 2
-  ordered : ticks corner ≤ℤ ticks (corner +ℤ extent)
-  flat : across ≡ axis → ticks corner ≡ ticks (corner +ℤ extent)
+  low_size : unsigned_abs (ticks_of corner) ≤ farthest
+  high_size : unsigned_abs (ticks_of (corner +ℤ extent)) ≤ farthest
+  low_even : IsEven (ticks_of corner)
+  high_even : IsEven (ticks_of (corner +ℤ extent))
+  low_unused : dims ≤ axis → ticks_of corner ≡ pos 0
+  high_unused : dims ≤ axis → ticks_of (corner +ℤ extent) ≡ pos 2
+  ordered : ticks_of corner ≤ℤ ticks_of (corner +ℤ extent)
+  flat : across ≡ axis → ticks_of corner ≡ ticks_of (corner +ℤ extent)
 
--- ticks of a place of whole micros are even
-ticks_even : (x : ℤ) → IsEven (ticks x)
+-- ticks_of of a place of whole micros are even
+ticks_even : (x : ℤ) → IsEven (ticks_of x)
 ticks_even x = omega (arith, ints)
 
 -- and reach no farther than planes may
-ticks_size : (x : ℤ) → negsuc 999999999999 ≤ℤ x → x ≤ℤ pos most_micros → unsigned_abs (ticks x) ≤ farthest
+ticks_size : (x : ℤ) → negsuc 999999999999 ≤ℤ x → x ≤ℤ pos most_micros → unsigned_abs (ticks_of x) ≤ farthest
 ticks_size x low high = omega (arith, ints)
 
 -- on an axis in use
@@ -98,7 +98,7 @@ flat_at (suc (suc zero)) a b c d e f within x y z = z refl
 flat_at (suc (suc (suc across))) a b c d e f within x y z = absurd (omega (arith, within))
 
 -- the rectangle of a line
-pub rect_sound : (dims across : ℕ) (line : Stated) (rect : Rect) → dims ≤ 3 → across < dims → rect_in dims across line ≡ Ok rect → IsPanelRect dims rect
+pub rect_sound : (dims across : ℕ) (line : Stated) (rect : Rect) → dims ≤ 3 → across < dims → rect_in dims across line ≡ Ok rect → IsPanelRectIn dims rect
 unfolding rect_in
 rect_sound dims across line rect few within is =
     let x = valued (corner_in dims 0 line) _ rect is in
@@ -112,11 +112,11 @@ rect_sound dims across line rect few within is =
     let r = reach_in dims across 2 line z.0 c.0 within z.1 c.1 in
     let made : Rect = record {
       axis = across;
-      low = ticks x.0 ∷ ticks y.0 ∷ ticks z.0 ∷ [];
-      high = ticks (x.0 +ℤ a.0) ∷ ticks (y.0 +ℤ b.0) ∷ ticks (z.0 +ℤ c.0) ∷ [];
+      low = ticks_of x.0 ∷ ticks_of y.0 ∷ ticks_of z.0 ∷ [];
+      high = ticks_of (x.0 +ℤ a.0) ∷ ticks_of (y.0 +ℤ b.0) ∷ ticks_of (z.0 +ℤ c.0) ∷ [];
     } in
     let below : across < 3 = omega (arith, few, within) in
-    subst (IsPanelRect dims) (same_value made rect c.2)
+    subst (IsPanelRectIn dims) (same_value made rect c.2)
     (record {
       rect_is = record {
         axis = below;
@@ -148,7 +148,7 @@ facing_below dims (Some greater) (Err kind) facing is = no_value _ facing is
 facing_below dims (Some greater) (Ok axis) facing is = chosen_facing (nat_lt axis dims) dims axis greater facing refl is
 
 -- the rectangle of a line's shape
-shape_sound : (dims : ℕ) (line : Stated) (shape : Facing × Rect) → dims ≤ 3 → shape_in dims line ≡ Ok shape → IsPanelRect dims shape.1
+shape_sound : (dims : ℕ) (line : Stated) (shape : Facing × Rect) → dims ≤ 3 → shape_in dims line ≡ Ok shape → IsPanelRectIn dims shape.1
 unfolding shape_in
 shape_sound dims line shape few is =
     let words = held (nat_le 2 (length (words_of line))) WrongWordCount _ _ shape is in
@@ -156,12 +156,12 @@ shape_sound dims line shape few is =
     let exact = held _ WrongWordCount [] _ shape known.1 in
     let facing = valued (facing_in dims (word_at line 2)) _ shape exact.1 in
     let rect = valued (rect_in dims facing.0.axis line) _ shape facing.2 in
-    subst (λ (shape : Facing × Rect). IsPanelRect dims shape.1) (same_value (facing.0, rect.0) shape rect.2)
+    subst (λ (shape : Facing × Rect). IsPanelRectIn dims shape.1) (same_value (facing.0, rect.0) shape rect.2)
     (rect_sound dims facing.0.axis line rect.0 few (facing_below dims (sign_of (word_at line 2)) _ facing.0 facing.1) rect.1)
 
 -- what is known of the panel of a line
 pub record IsShown (dims others : ℕ) (names : List (List ℕ)) (panel : Named) : Type 0 where
-  pub rect : IsPanelRect dims panel.rect
+  pub rect : IsPanelRectIn dims panel.rect
   pub room : others + length names < most_panels
 
 -- and it is so of the panel of every line without a fault

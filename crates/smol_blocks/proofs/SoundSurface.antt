@@ -14,10 +14,10 @@ use Rattle.smol_blocks.specs.declared.surface_statement.SurfaceStatement.{Surfac
 use Rattle.smol_blocks.specs.declared.surface_statement.SurfaceStatement.TheVariants as statement
 use Rattle.smol_blocks.specs.Action.{action_in}
 use Rattle.smol_blocks.specs.Blocks.{numbered_face, panels_from}
-use Rattle.smol_blocks.specs.BlocksSound.{AreSurfaceLines, IsPanelRect, LeadsAmong, LeadsFrom}
+use Rattle.smol_blocks.specs.BlocksSound.{AreSurfaceLines, IsPanelRectIn, LeadsAmong, LeadsFrom}
 use Rattle.smol_blocks.specs.Jump.{jump_in}
 use Rattle.smol_blocks.specs.Panel.{Named, panel_in}
-use Rattle.smol_blocks.specs.Surface.{SurfaceSaid, acts, shows, leads, Known, led_to, names_of, rects_of, sides_of, surface_line_in}
+use Rattle.smol_blocks.specs.Surface.{SurfaceSaid, acts, shows, leads, Known, led_to, panel_names_of, rects_of, sides_of, surface_line_in}
 use Rattle.smol_blocks.proofs.SoundJump.{IsLeading, jump_sound, leads_more, leads_nearer}
 use Rattle.smol_blocks.proofs.SoundPanel.{IsShown, panel_sound}
 use Rattle.smol_blocks.proofs.SoundValues.{found_before}
@@ -28,25 +28,25 @@ no_surface_lines dims others fits = record {
   count = omega (arith, fits);
   names = refl;
   sides = refl;
-  rects = All-nil (IsPanelRect dims);
+  rects = All-nil (IsPanelRectIn dims);
   front_to = λ panel. tt;
   back_to = λ panel. tt;
 }
 
 -- a panel more
-shows_keeps : (dims others : ℕ) (lines : List SurfaceSaid) (panel : Named) → IsShown dims others (names_of lines) panel → AreSurfaceLines dims others lines → AreSurfaceLines dims others (shows panel ∷ lines)
+shows_keeps : (dims others : ℕ) (lines : List SurfaceSaid) (panel : Named) → IsShown dims others (panel_names_of lines) panel → AreSurfaceLines dims others lines → AreSurfaceLines dims others (shows panel ∷ lines)
 shows_keeps dims others lines panel new sound =
     let room = new.room in
     let names = sound.names in
     let sides = sound.sides in
-    let more_names : length (names_of lines ++ panel.name ∷ []) ≡ length (names_of lines) + 1 = length-append (names_of lines) (panel.name ∷ []) in
+    let more_names : length (panel_names_of lines ++ panel.name ∷ []) ≡ length (panel_names_of lines) + 1 = length-append (panel_names_of lines) (panel.name ∷ []) in
     let more_rects : length (rects_of lines ++ panel.rect ∷ []) ≡ length (rects_of lines) + 1 = length-append (rects_of lines) (panel.rect ∷ []) in
     let more_sides : length (sides_of lines ++ panel.facing.greater ∷ []) ≡ length (sides_of lines) + 1 = length-append (sides_of lines) (panel.facing.greater ∷ []) in
     record {
       count = omega (arith, room, names, more_rects);
       names = omega (arith, names, more_names, more_rects);
       sides = omega (arith, sides, more_sides, more_rects);
-      rects = All-push (IsPanelRect dims) (rects_of lines) panel.rect sound.rects new.rect;
+      rects = All-push (IsPanelRectIn dims) (rects_of lines) panel.rect sound.rects new.rect;
       front_to = λ number. leads_more (rects_of lines) (panel.rect ∷ []) number (led_to number Front lines) (sound.front_to number);
       back_to = λ number. leads_more (rects_of lines) (panel.rect ∷ []) number (led_to number Back lines) (sound.back_to number);
     }
@@ -70,13 +70,13 @@ surface_keeps statement.Action known lines line more few is sound =
     subst (λ (more : SurfaceSaid). AreSurfaceLines known.dims known.others (more ∷ lines)) by.2
     (record { count = sound.count; names = sound.names; sides = sound.sides; rects = sound.rects; front_to = sound.front_to; back_to = sound.back_to })
 surface_keeps statement.Panel known lines line more few is sound =
-    let by = said_by shows (panel_in known.dims known.others (names_of lines) line) more is in
+    let by = said_by shows (panel_in known.dims known.others (panel_names_of lines) line) more is in
     subst (λ (more : SurfaceSaid). AreSurfaceLines known.dims known.others (more ∷ lines)) by.2
-    (shows_keeps known.dims known.others lines by.0 (panel_sound known.dims known.others (names_of lines) line by.0 few by.1) sound)
+    (shows_keeps known.dims known.others lines by.0 (panel_sound known.dims known.others (panel_names_of lines) line by.0 few by.1) sound)
 surface_keeps statement.Jump known lines line more few is sound =
-    let by = said_by leads (jump_in (names_of lines) (rects_of lines) line) more is in
+    let by = said_by leads (jump_in (panel_names_of lines) (rects_of lines) line) more is in
     subst (λ (more : SurfaceSaid). AreSurfaceLines known.dims known.others (more ∷ lines)) by.2
-    (leads_keeps known.dims known.others lines by.0 (jump_sound (names_of lines) (rects_of lines) line by.0 sound.names by.1) sound)
+    (leads_keeps known.dims known.others lines by.0 (jump_sound (panel_names_of lines) (rects_of lines) line by.0 sound.names by.1) sound)
 
 -- a surface has a panel for each rectangle
 pub length-panels_from : (surface others : ℕ) (lines : List SurfaceSaid) (number : ℕ) (rects : List Rect) (sides : List Bool) → length sides ≡ length rects → length (panels_from surface others lines number rects sides) ≡ length rects
@@ -121,12 +121,12 @@ others_lead all rects rect number one lines lead at =
 
 -- the panels from a number on
 panels_from_sound : (dims surface_count surface others : ℕ) (panels : List ThePanel) (all : List Rect) (lines : List SurfaceSaid) (number : ℕ) (rects : List Rect) (sides : List Bool)
-    → surface < surface_count → StandBehind others all panels → All (IsPanelRect dims) rects → LeadFrom all rects number Front lines → LeadFrom all rects number Back lines
+    → surface < surface_count → StandBehind others all panels → All (IsPanelRectIn dims) rects → LeadFrom all rects number Front lines → LeadFrom all rects number Back lines
     → All (IsPanel dims surface_count panels) (panels_from surface others lines number rects sides)
 panels_from_sound dims surface_count surface others panels all lines number [] sides below stand sound front back = All-nil (IsPanel dims surface_count panels)
 panels_from_sound dims surface_count surface others panels all lines number (rect ∷ rects) [] below stand sound front back = All-nil (IsPanel dims surface_count panels)
 panels_from_sound dims surface_count surface others panels all lines number (rect ∷ rects) (side ∷ sides) below stand sound front back =
-    let first = All-head (IsPanelRect dims) rect rects sound in
+    let first = All-head (IsPanelRectIn dims) rect rects sound in
     All-cons (IsPanel dims surface_count panels) _ (panels_from surface others lines (number + 1) rects sides)
     (record {
       rect = first.rect_is;
@@ -143,7 +143,7 @@ panels_from_sound dims surface_count surface others panels all lines number (rec
       front_to = leads_over others all panels rect (led_to number Front lines) stand (first_leads all rects rect number Front lines front);
       back_to = leads_over others all panels rect (led_to number Back lines) stand (first_leads all rects rect number Back lines back);
     })
-    (panels_from_sound dims surface_count surface others panels all lines (number + 1) rects sides below stand (All-tail (IsPanelRect dims) rect rects sound)
+    (panels_from_sound dims surface_count surface others panels all lines (number + 1) rects sides below stand (All-tail (IsPanelRectIn dims) rect rects sound)
     (others_lead all rects rect number Front lines front) (others_lead all rects rect number Back lines back))
 
 -- all rectangles stand from number 0 on

@@ -10,10 +10,10 @@ use Rattle.smol_types.specs.Limits.{farthest, most_bounds, most_compartments, mo
 use Rattle.smol_types.specs.Panels.{IsCongruent, IsPanel}
 use Rattle.smol_blocks.specs.Blocks.{Block, no_block, in_surface, in_compartment, BlockSaid, block_of, surface_names, surfaces_of, panels_of, compartment_names, compartments_of}
 use Rattle.smol_blocks.specs.Compartment.{CompartmentSaid, surfaces_named, points_given}
-use Rattle.smol_blocks.specs.Surface.{SurfaceSaid, led_to, names_of, rects_of, sides_of}
+use Rattle.smol_blocks.specs.Surface.{SurfaceSaid, led_to, panel_names_of, rects_of, sides_of}
 
 -- a rectangle that a panel may have
-pub record IsPanelRect (dims : ℕ) (rect : Rect) : Type 0 where
+pub record IsPanelRectIn (dims : ℕ) (rect : Rect) : Type 0 where
   pub rect_is : IsRect rect
   pub across : rect.axis < dims
   pub low_count : length rect.low ≡ 3
@@ -39,9 +39,9 @@ LeadsFrom rects (Some rect) to = LeadsAmong rects rect to
 -- the lines of a surface's block, where so many panels of other surfaces stand before
 pub record AreSurfaceLines (dims others : ℕ) (lines : List SurfaceSaid) : Type 0 where
   pub count : others + length (rects_of lines) ≤ most_panels
-  pub names : length (names_of lines) ≡ length (rects_of lines)
+  pub names : length (panel_names_of lines) ≡ length (rects_of lines)
   pub sides : length (sides_of lines) ≡ length (rects_of lines)
-  pub rects : All (IsPanelRect dims) (rects_of lines)
+  pub rects : All (IsPanelRectIn dims) (rects_of lines)
   pub front_to : (panel : ℕ) → LeadsFrom (rects_of lines) (slice_get (rects_of lines) panel) (led_to panel Front lines)
   pub back_to : (panel : ℕ) → LeadsFrom (rects_of lines) (slice_get (rects_of lines) panel) (led_to panel Back lines)
 

@@ -50,9 +50,9 @@ extent_in dims across axis corner line =
     then (if axis == across then Ok (pos 0) else edge_in corner (word_at line (edge_place dims across axis)))
     else Ok (pos 1)
 
--- a place of m micros stands at 2m ticks
-abbrev pub ticks : ℤ → ℤ
-ticks micros = pos 2 *ℤ micros
+-- a place of m micros stands at 2m ticks_of
+abbrev pub ticks_of : ℤ → ℤ
+ticks_of micros = pos 2 *ℤ micros
 
 -- the rectangle of a line across this axis: its corner, and then its edges
 unfoldable pub rect_in : ℕ → ℕ → Stated → Result Rect Kind
@@ -65,8 +65,8 @@ rect_in dims across line =
     with_value (extent_in dims across 2 z line) (λ c.
     Ok (record {
       axis = across;
-      low = ticks x ∷ ticks y ∷ ticks z ∷ [];
-      high = ticks (x +ℤ a) ∷ ticks (y +ℤ b) ∷ ticks (z +ℤ c) ∷ [];
+      low = ticks_of x ∷ ticks_of y ∷ ticks_of z ∷ [];
+      high = ticks_of (x +ℤ a) ∷ ticks_of (y +ℤ b) ∷ ticks_of (z +ℤ c) ∷ [];
     })))))))
 
 -- the word of the one shape that there is

@@ -36,11 +36,11 @@ pub record Known : Type 0 where
   pub others : ℕ
 
 -- the names of the panels that the lines before give, in order
-abbrev pub names_of : List SurfaceSaid → List (List ℕ)
-names_of [] = []
-names_of (acts acting ∷ before) = names_of before
-names_of (shows panel ∷ before) = names_of before ++ panel.name ∷ []
-names_of (leads leading ∷ before) = names_of before
+abbrev pub panel_names_of : List SurfaceSaid → List (List ℕ)
+panel_names_of [] = []
+panel_names_of (acts acting ∷ before) = panel_names_of before
+panel_names_of (shows panel ∷ before) = panel_names_of before ++ panel.name ∷ []
+panel_names_of (leads leading ∷ before) = panel_names_of before
 
 -- and their rectangles
 abbrev pub rects_of : List SurfaceSaid → List Rect
@@ -96,8 +96,8 @@ led_to panel one (leads leading ∷ before) = nearer (led_by leading panel one) 
 -- what a line of the block says that makes this statement, or its fault
 unfoldable pub surface_line_in : SurfaceStatement → Known → List SurfaceSaid → Stated → Result SurfaceSaid Kind
 surface_line_in statement.Action known before line = say acts (action_in known.species line)
-surface_line_in statement.Panel known before line = say shows (panel_in known.dims known.others (names_of before) line)
-surface_line_in statement.Jump known before line = say leads (jump_in (names_of before) (rects_of before) line)
+surface_line_in statement.Panel known before line = say shows (panel_in known.dims known.others (panel_names_of before) line)
+surface_line_in statement.Jump known before line = say leads (jump_in (panel_names_of before) (rects_of before) line)
 
 -- what a face does to each of so many species from a number on
 abbrev pub actions_from : Face → ℕ → List (List ℕ) → List SurfaceSaid → List Action

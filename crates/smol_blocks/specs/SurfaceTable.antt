@@ -11,7 +11,7 @@ use Rattle.smol_blocks.specs.declared.jump.Leading.{Leading}
 use Rattle.smol_blocks.specs.declared.panel_table.PanelTable.{PanelTable}
 use Rattle.smol_blocks.specs.declared.surface_table.SurfaceTable.{SurfaceTable}
 use Rattle.smol_blocks.specs.Panel.{Named}
-use Rattle.smol_blocks.specs.Surface.{SurfaceSaid, Known, names_of, rects_of, sides_of, acting_on, led_by, led_to}
+use Rattle.smol_blocks.specs.Surface.{SurfaceSaid, Known, panel_names_of, rects_of, sides_of, acting_on, led_by, led_to}
 
 -- jumps lead to panels of these, if anywhere
 abbrev pub LeadWithin : ℕ → List (Option (ℕ × Face)) → Type 0
@@ -46,7 +46,7 @@ pub record AddsJump (old new : PanelTable) (leading : Leading) : Type 0 where
 
 -- each table is its look-up over what the lines of the block so far say
 pub record Holds (table : SurfaceTable) (before : List SurfaceSaid) : Type 0 where
-  pub names : table.panels.names ≡ names_of before
+  pub names : table.panels.names ≡ panel_names_of before
   pub rects : table.panels.rects.items ≡ rects_of before
   pub sides : table.panels.sides.items ≡ sides_of before
   pub front : (species : ℕ) → slice_index_or table.actions.front.items species Transmit ≡ acting_on Front species before

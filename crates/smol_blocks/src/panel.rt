@@ -1,7 +1,7 @@
 //! `panel SHAPE SIGNEDAXIS CORNER ... EDGE ... [NAME]`: a rectangle across an axis.
 ghost use Rattle.std.specs.Prelude.{◌≡◌, ◌≤◌, ◌<◌, ◌+ℤ◌, IfOk, unsigned_abs};
 ghost use Rattle.smol_line.specs.Length.{most_micros};
-ghost use Rattle.smol_blocks.specs.Panel.{corner_in, edge_in, edge_place, extent_in, facing_in, is_shape, rect_in, shape_in, sign_of, ticks};
+ghost use Rattle.smol_blocks.specs.Panel.{corner_in, edge_in, edge_place, extent_in, facing_in, is_shape, rect_in, shape_in, sign_of, ticks_of};
 
 use smol_geom::Rect;
 use smol_line::{axis_in, decimal_in, micros_in, spells, unless, word_at};
@@ -103,19 +103,19 @@ fn extent_in(
     edge_in(corner, word_at(line, edge_place(dims, across, axis)))
 }
 
-// A place of m micros stands at 2m ticks.
-fn ticks(micros: i64) -> i64
+// A place of m micros stands at 2m ticks_of.
+fn ticks_of(micros: i64) -> i64
     requires { unsigned_abs micros ≤ most_micros }
-    ensures { result ≡ ticks micros }
+    ensures { result ≡ ticks_of micros }
 {
     2 * micros
 }
 
-// Where an edge ends, in ticks.
+// Where an edge ends, in ticks_of.
 fn end(corner: i64, extent: i64) -> i64
     requires corner { unsigned_abs corner ≤ most_micros }
     requires extent { unsigned_abs extent ≤ 2000000000000 }
-    ensures { result ≡ ticks (corner +ℤ extent) }
+    ensures { result ≡ ticks_of (corner +ℤ extent) }
 {
     2 * (corner + extent)
 }
@@ -134,7 +134,7 @@ fn rect_in(dims: u8, across: u8, line: &StatedLine<'_>) -> Result<Rect, Kind>
     let c = extent_in(dims, across, 2, z, line)?;
     Ok(Rect {
         axis: across,
-        low: [ticks(x), ticks(y), ticks(z)],
+        low: [ticks_of(x), ticks_of(y), ticks_of(z)],
         high: [end(x, a), end(y, b), end(z, c)],
     })
 }

@@ -6,7 +6,7 @@ use Rattle.smol_types.specs.Walls.{AreBetween, LiesBetween}
 use Rattle.smol_line.specs.declared.axes.Axes.{Axes}
 use Rattle.smol_line.specs.declared.axes.Bounds.{Bounds}
 use Rattle.smol_line.specs.Axes.{AreAxes, IsBounded, is_walled, needs_walls, read_axes, read_axis, walls_of}
-use Rattle.smol_line.specs.Coordinate.{coordinate_between}
+use Rattle.smol_line.specs.Coordinate.{coordinate_in}
 use Rattle.smol_line.specs.Words.{word_at}
 use Rattle.smol_line.proofs.Between.{coordinate_lies, lower_wall, settled_by, unwalled, upper_wall}
 use Rattle.smol_line.proofs.Passing.{same_value, three, valued}
@@ -17,7 +17,7 @@ abbrev IsCoordinate : ℕ → Option Bounds → ℤ → Type 0
 IsCoordinate axis None x = x ≡ pos 1
 IsCoordinate axis (Some bounds) x = LiesBetween (lower_wall axis bounds) (upper_wall axis bounds) x
 
-coordinate_is : (first axis : ℕ) (dims : Option ℕ) (bounds : Option Bounds) (line : Stated) (t : ℤ) → IfSome bounds (IsBounded dims axis) → read_axis coordinate_between (pos 1) first axis bounds line ≡ Ok t → IsCoordinate axis bounds t
+coordinate_is : (first axis : ℕ) (dims : Option ℕ) (bounds : Option Bounds) (line : Stated) (t : ℤ) → IfSome bounds (IsBounded dims axis) → read_axis coordinate_in (pos 1) first axis bounds line ≡ Ok t → IsCoordinate axis bounds t
 coordinate_is first axis dims None line t is_bounded is = sym (same_value (pos 1) t is)
 coordinate_is first axis dims (Some bounds) line t is_bounded is =
     coordinate_lies axis bounds (word_at line (first + axis)) t is_bounded.ordered is
@@ -36,10 +36,10 @@ are_between dims axes (Some x) (Some y) (Some z) u v w is_x is_y is_z some walle
 pub place_is : (axes : Axes) (dims first : ℕ) (line : Stated) (place : Place) → AreAxes axes → needs_walls axes ≡ Ok dims → place_in axes line first ≡ Ok place → (length place.0 ≡ 3) × AreBetween (walls_of axes) place.0
 unfolding read_axes place_in
 place_is axes dims first line place sound walled is =
-    let coordinates = valued (read_axes coordinate_between (pos 1) first axes line) _ place is in
-    let x = valued (read_axis coordinate_between (pos 1) first 0 axes.x line) _ coordinates.0 coordinates.1 in
-    let y = valued (read_axis coordinate_between (pos 1) first 1 axes.y line) _ coordinates.0 x.2 in
-    let z = valued (read_axis coordinate_between (pos 1) first 2 axes.z line) _ coordinates.0 y.2 in
+    let coordinates = valued (read_axes coordinate_in (pos 1) first axes line) _ place is in
+    let x = valued (read_axis coordinate_in (pos 1) first 0 axes.x line) _ coordinates.0 coordinates.1 in
+    let y = valued (read_axis coordinate_in (pos 1) first 1 axes.y line) _ coordinates.0 x.2 in
+    let z = valued (read_axis coordinate_in (pos 1) first 2 axes.z line) _ coordinates.0 y.2 in
     let by = settled_by axes dims walled in
     let walls = three (is_walled dims 0 axes.x) (is_walled dims 1 axes.y) (is_walled dims 2 axes.z) by.1 in
     let range = rw by.0 at sound.dims in

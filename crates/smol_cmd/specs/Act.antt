@@ -10,7 +10,7 @@ use Rattle.smol_types.specs.declared.fault.Kind.TheVariants.{UnknownCommand, Wro
 use Rattle.smol_types.specs.Limits.{most_molecules}
 use Rattle.smol_line.specs.declared.axes.Axes.{Axes}
 use Rattle.smol_line.specs.Axes.{needs_dim, read_axes}
-use Rattle.smol_line.specs.Coordinate.{coordinate_between}
+use Rattle.smol_line.specs.Coordinate.{coordinate_in}
 use Rattle.smol_line.specs.Words.{word_at}
 use Rattle.smol_line.specs.Checks.{there, word_count, passing, with_value}
 use Rattle.smol_line.specs.Numbers.{count_in}
@@ -107,7 +107,7 @@ replace_in known line at =
 -- the place between the walls whose coordinates stand from a place of the line on, one for each axis in use
 unfoldable pub place_in : Axes → Stated → ℕ → Result Place Kind
 place_in axes line first =
-    with_value (read_axes coordinate_between (pos 1) first axes line) (λ coordinates. Ok (record { 0 = coordinates }))
+    with_value (read_axes coordinate_in (pos 1) first axes line) (λ coordinates. Ok (record { 0 = coordinates }))
 
 -- `pointsource SPECIES N X ...`, with a coordinate for each axis in use
 unfoldable pub point_source_in : Known → Stated → ℕ → Result Act Kind

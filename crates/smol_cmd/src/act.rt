@@ -3,7 +3,7 @@ ghost use Rattle.std.specs.Prelude.{◌≡◌, ◌+◌, ◌<◌, ◌≤◌, leng
 ghost use Rattle.smol_text.specs.Reading.{words_of};
 ghost use Rattle.smol_line.specs.Answers.{Answers};
 ghost use Rattle.smol_line.specs.Axes.{read_axis};
-ghost use Rattle.smol_line.specs.Coordinate.{coordinate_between};
+ghost use Rattle.smol_line.specs.Coordinate.{coordinate_in};
 ghost use Rattle.smol_cmd.specs.Known.{AreFew};
 ghost use Rattle.smol_cmd.specs.Act.{act_in, act_of, count_within_in, echo_in, kill_in, kill_prob_in, place_in, point_source_in, positions_in, print_in, replace_in, stop_in};
 
@@ -16,7 +16,7 @@ use crate::verb::{Verb, verb_in};
 use crate::who::who_in;
 use smol_geom::Place;
 use smol_line::{
-    Axes, Bounds, Refusal, coordinate_between, count_in, needs_dim, number_in, species_word_in,
+    Axes, Bounds, Refusal, coordinate_in, count_in, needs_dim, number_in, species_word_in,
 };
 use smol_text::StatedLine;
 use smol_types::{Act, Kind};
@@ -160,11 +160,11 @@ fn coordinate_at(
 ) -> Result<i64, Kind>
     requires within { at ≤ length (words_of line.now) }
     requires axis { axis < 3 }
-    ensures { result ≡ read_axis coordinate_between (pos 1) (at + 3) axis bounds.now line.now }
+    ensures { result ≡ read_axis coordinate_in (pos 1) (at + 3) axis bounds.now line.now }
 {
     match bounds {
         None => Ok(1),
-        Some(bounds) => coordinate_between(bounds, word_behind(line, at, 3 + axis)),
+        Some(bounds) => coordinate_in(bounds, word_behind(line, at, 3 + axis)),
     }
 }
 

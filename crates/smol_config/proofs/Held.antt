@@ -40,7 +40,7 @@ use Rattle.smol_config.specs.Reactions.{reactions_said}
 use Rattle.smol_config.specs.Blocks.{blocks_said, stands_outside}
 use Rattle.smol_config.specs.Mol.{mol_in}
 use Rattle.smol_config.specs.CompartmentMol.{compartment_mol_in}
-use Rattle.smol_config.specs.Commands.{commands_of, known_of}
+use Rattle.smol_config.specs.Commands.{commands_of, known_before}
 use Rattle.smol_config.specs.Tables.{Holds, IsInPlace, IsOutside, Reads, with_bounds}
 
 -- the walls of one axis more
@@ -420,7 +420,7 @@ mol_rule line tables before h = λ j. mol_in (sym h.axes j) (sym h.species j) li
 pub compartment_mol_rule : (line : Stated) (tables : Tables) (before : List Said) → Holds tables before → compartment_mol_in (axes_of before) (species_of before) (compartment_names (blocks_said before)) line ≡ compartment_mol_in tables.axes tables.species.names tables.blocks.compartment_names line
 compartment_mol_rule line tables before h = λ j. compartment_mol_in (sym h.axes j) (sym h.species j) (sym h.blocks.compartment_names j) line
 
-pub cmd_rule : (line : Stated) (tables : Tables) (before : List Said) (count : ℕ) → count ≡ length tables.commands → Holds tables before → cmd_in (known_of before) (length (commands_of before)) line ≡ cmd_in (known tables.axes tables.species.names tables.blocks.compartment_names tables.outputs) count line
+pub cmd_rule : (line : Stated) (tables : Tables) (before : List Said) (count : ℕ) → count ≡ length tables.commands → Holds tables before → cmd_in (known_before before) (length (commands_of before)) line ≡ cmd_in (known tables.axes tables.species.names tables.blocks.compartment_names tables.outputs) count line
 cmd_rule line tables before count counted h =
     let counts = sym (counted ∙ ap (λ (all : List Command). length all) h.commands) in
     λ j. cmd_in (known (sym h.axes j) (sym h.species j) (sym h.blocks.compartment_names j) (sym h.outputs j)) (counts j) line

@@ -9,7 +9,7 @@ use Rattle.smol_line.specs.declared.refusal.Refusal.{Refusal}
 use Rattle.smol_line.specs.declared.refusal.Refusal.TheVariants.{At, OutOfMemory}
 use Rattle.smol_line.specs.Axes.{AreAxes}
 use Rattle.smol_line.specs.Checks.{with_value}
-use Rattle.smol_line.specs.Fault.{Fault, fault_at, at_line, Tells}
+use Rattle.smol_line.specs.Fault.{Fault, fault_at, at_line, TellsFault}
 use Rattle.smol_blocks.specs.Blocks.{block_of, opening_line}
 use Rattle.smol_config.specs.Said.{Said}
 use Rattle.smol_config.specs.Reader.{config_from, line_in, read_from}
@@ -28,7 +28,7 @@ read_from-next before line lines said fine = ap (λ (found : Result Said Kind). 
 read_from-refused : (before : List Said) (line : Stated) (lines : List Stated) (kind : Kind) → line_in before line ≡ Err kind → read_from before (line ∷ lines) ≡ Err (fault_at line.number kind)
 read_from-refused before line lines kind failed = ap (λ (found : Result Said Kind). with_value (at_line line.number found) (λ said. read_from (said ∷ before) lines)) failed
 
-pub refused_line : (all rest : List Stated) (before : List Said) (line : Stated) (more : List Stated) (refusal : Refusal) → read_from [] all ≡ read_from before rest → rest ≡ line ∷ more → ((kind : Kind) → refusal ≡ At kind → line_in before line ≡ Err kind) → Tells (told_at line.number refusal) (config_from all)
+pub refused_line : (all rest : List Stated) (before : List Said) (line : Stated) (more : List Stated) (refusal : Refusal) → read_from [] all ≡ read_from before rest → rest ≡ line ∷ more → ((kind : Kind) → refusal ≡ At kind → line_in before line ≡ Err kind) → TellsFault (told_at line.number refusal) (config_from all)
 refused_line all rest before line more (At kind) same next failed =
     ap (λ (said : Result (List Said) Fault). with_value said whole_in) (same ∙ ap (read_from before) next ∙ read_from-refused before line more kind (failed kind refl))
 refused_line all rest before line more OutOfMemory same next failed = tt
@@ -37,7 +37,7 @@ refused_line all rest before line more OutOfMemory same next failed = tt
 pub config_from-whole : (all rest : List Stated) (before : List Said) → read_from [] all ≡ read_from before rest → rest ≡ [] → config_from all ≡ whole_in before
 config_from-whole all rest before same ended = ap (λ (said : Result (List Said) Fault). with_value said whole_in) (same ∙ ap (read_from before) ended)
 
-pub refused_whole : (refusal : Refusal) (outcome : Result Draft Fault) → ((kind : Kind) → refusal ≡ At kind → outcome ≡ Err (fault_at 0 kind)) → Tells (told_at 0 refusal) outcome
+pub refused_whole : (refusal : Refusal) (outcome : Result Draft Fault) → ((kind : Kind) → refusal ≡ At kind → outcome ≡ Err (fault_at 0 kind)) → TellsFault (told_at 0 refusal) outcome
 refused_whole (At kind) outcome failed = failed kind refl
 refused_whole OutOfMemory outcome failed = tt
 
@@ -67,6 +67,6 @@ whole_accepted all before tables (Ok config) same h accepted = same ∙ accepted
 whole_accepted all before tables (Err fault) same h accepted = tt
 
 pub whole_refused : (all : List Stated) (before : List Said) (tables : Tables) (result : Result Draft ConfigFault) → config_from all ≡ whole_in before → Holds tables before
-    → IfErr result (λ fault. (before : List Said) → Holds tables before → Tells fault (whole_in before)) → IfErr result (λ fault. Tells fault (config_from all))
+    → IfErr result (λ fault. (before : List Said) → Holds tables before → TellsFault fault (whole_in before)) → IfErr result (λ fault. TellsFault fault (config_from all))
 whole_refused all before tables (Ok config) same h refused = tt
-whole_refused all before tables (Err fault) same h refused = subst (Tells fault) (sym same) (refused before h)
+whole_refused all before tables (Err fault) same h refused = subst (TellsFault fault) (sym same) (refused before h)

@@ -19,7 +19,7 @@ use Rattle.smol_line.specs.declared.axes.Bounds.{Bounds}
 use Rattle.smol_line.specs.Axes.{AreAxes, AreSettled, IsBounded, are_walled, is_walled, needs_dim, needs_walls, read_axes, read_axis, walls_of}
 use Rattle.smol_line.specs.Axis.{axis_in}
 use Rattle.smol_line.specs.Checks.{unless, once, word_count, passing, with_value}
-use Rattle.smol_line.specs.Coordinate.{coordinate_between}
+use Rattle.smol_line.specs.Coordinate.{coordinate_in}
 use Rattle.smol_line.specs.Length.{micros_in}
 use Rattle.smol_line.specs.Names.{names_fault}
 use Rattle.smol_line.specs.Numbers.{count_in}
@@ -46,15 +46,15 @@ use Rattle.smol_config.specs.Axes.{axes_of, dims_of}
 use Rattle.smol_config.specs.Dim.{dim_in}
 use Rattle.smol_config.specs.Species.{species_of, further_words, species_in, species_fault}
 use Rattle.smol_config.specs.Motion.{difc_in, difstep_in}
-use Rattle.smol_config.specs.Times.{nanos_in, start_of, stop_of, step_of, time_in, time_step_in}
+use Rattle.smol_config.specs.Times.{nanos_in, time_start_of, time_stop_of, time_step_of, given_time_in, time_step_in}
 use Rattle.smol_config.specs.MaxMol.{max_mol_of, max_mol_in}
 use Rattle.smol_config.specs.RandomSeed.{random_seed_in}
 use Rattle.smol_config.specs.Boundaries.{line_letter, bounds_at, bounds_in, boundaries_in}
-use Rattle.smol_config.specs.Mol.{given_in, place_in, mol_in}
+use Rattle.smol_config.specs.Mol.{given_in, given_place_in, mol_in}
 use Rattle.smol_config.specs.Reactions.{reactions_said}
 use Rattle.smol_config.specs.Blocks.{blocks_said, stands_outside}
 use Rattle.smol_config.specs.CompartmentMol.{compartment_mol_in}
-use Rattle.smol_config.specs.Commands.{commands_of, known_of, outputs_of}
+use Rattle.smol_config.specs.Commands.{commands_of, known_before, outputs_of}
 use Rattle.smol_config.specs.Reader.{statement_in, line_in}
 use Rattle.smol_config.specs.SoFar.{IsSoFar}
 use Rattle.smol_config.proofs.Kept.{passed_over_kept, axes_kept, names_kept, moves_kept, starts_kept, stops_kept, steps_kept, limits_kept, seeds_kept, walls_kept, places_kept, of_reactions_kept, of_blocks_kept, writes_kept, performs_kept}
@@ -83,8 +83,8 @@ species_keeps before line more is h =
     names_kept before more (subst (λ (names : List (List ℕ)). length (species_of before) + length names ≤ 256) same fits) h
 
 -- a time is within its range
-time_small : (given : Option ℤ) (line : Stated) (time : ℤ) → time_in given line ≡ Ok time → unsigned_abs time ≤ 1000000000000000000
-unfolding time_in
+time_small : (given : Option ℤ) (line : Stated) (time : ℤ) → given_time_in given line ≡ Ok time → unsigned_abs time ≤ 1000000000000000000
+unfolding given_time_in
 time_small given line time is =
     let value = nanos_in (word_at line 1) in
     let a = passed (once given) (word_count 2 line ∷ []) value time is in
@@ -98,13 +98,13 @@ time_step_keeps : (before : List Said) (line : Stated) (time : ℤ) → time_ste
 unfolding time_step_in
 time_step_keeps before line time is h =
     let next = λ (time : ℤ). passing (unless (int_lt (pos 0) time) kind.OutOfRange ∷ []) (Ok time) in
-    let found = valued (time_in (step_of before) line) next time is in
+    let found = valued (given_time_in (time_step_of before) line) next time is in
     let value : Result ℤ Kind = Ok found.0 in
     let passes = passed (unless (int_lt (pos 0) found.0) kind.OutOfRange) [] value time found.2 in
     let test = holds (int_lt (pos 0) found.0) kind.OutOfRange passes.0 in
     let above : pos 0 <ℤ found.0 = grind (arith, nat_tests) in
     let same : found.0 ≡ time = cc in
-    let small = time_small (step_of before) line found.0 found.1 in
+    let small = time_small (time_step_of before) line found.0 found.1 in
     subst (λ (t : ℤ). IsSoFar (steps t ∷ before)) same (steps_kept before found.0 small above h)
 
 max_mol_keeps : (before : List Said) (line : Stated) (count : ℕ) → max_mol_in before line ≡ Ok count → IsSoFar before → IsSoFar (limits count ∷ before)
@@ -178,10 +178,10 @@ IsCoordinate axis None Any = ⊥
 IsCoordinate axis None (At x) = x ≡ pos 1
 IsCoordinate axis (Some bounds) given = IsGiven (lower_wall axis bounds) (upper_wall axis bounds) given
 
-drawn_or_given : (axis : ℕ) (bounds : Bounds) (word : List ℕ) (given : Given) (drawn : Bool) → bounds.low.0 <ℤ bounds.high.0 → (if drawn then Ok Any else with_value (coordinate_between bounds word) (λ x. Ok (At x))) ≡ Ok given → IsGiven (lower_wall axis bounds) (upper_wall axis bounds) given
+drawn_or_given : (axis : ℕ) (bounds : Bounds) (word : List ℕ) (given : Given) (drawn : Bool) → bounds.low.0 <ℤ bounds.high.0 → (if drawn then Ok Any else with_value (coordinate_in bounds word) (λ x. Ok (At x))) ≡ Ok given → IsGiven (lower_wall axis bounds) (upper_wall axis bounds) given
 drawn_or_given axis bounds word given true ordered is = let same : Any ≡ given = cc in subst (IsGiven (lower_wall axis bounds) (upper_wall axis bounds)) same tt
 drawn_or_given axis bounds word given false ordered is =
-    let x = valued (coordinate_between bounds word) (λ x. let at : Result Given Kind = Ok (At x) in at) given is in
+    let x = valued (coordinate_in bounds word) (λ x. let at : Result Given Kind = Ok (At x) in at) given is in
     let same : At x.0 ≡ given = cc in
     subst (IsGiven (lower_wall axis bounds) (upper_wall axis bounds)) same (coordinate_lies axis bounds word x.0 ordered x.1)
 
@@ -204,7 +204,7 @@ are_given dims (Some x) (Some y) None u v Any some walled_x walled_y walled_z us
 are_given dims (Some x) (Some y) None u v (At w) some walled_x walled_y walled_z used_y used_z at_x at_y at_z = (at_x, (at_y, (at_z, tt)))
 are_given dims (Some x) (Some y) (Some z) u v w some walled_x walled_y walled_z used_y used_z at_x at_y at_z = (at_x, (at_y, (at_z, tt)))
 
-coordinates_are : (known : Axes) (line : Stated) (dims : ℕ) (at : List Given) → known.dims ≡ Some dims → are_walled dims known ≡ true → AreAxes known → place_in known line ≡ Ok at → (length at ≡ 3) × AreGiven (walls_of known) at
+coordinates_are : (known : Axes) (line : Stated) (dims : ℕ) (at : List Given) → known.dims ≡ Some dims → are_walled dims known ≡ true → AreAxes known → given_place_in known line ≡ Ok at → (length at ≡ 3) × AreGiven (walls_of known) at
 unfolding read_axes walls_of
 coordinates_are known line dims at has walled h is =
     let third = λ (x y z : Given). let all : Result (List Given) Kind = Ok (x ∷ y ∷ z ∷ []) in all in
@@ -229,13 +229,13 @@ mol_keeps : (before : List Said) (line : Stated) (one : Placing) → mol_in (axe
 unfolding mol_in
 mol_keeps before line one is h =
     let last = λ (n species : ℕ) (at : List Given). let all : Result Placing Kind = Ok (placing.Mol n species at) in all in
-    let named = λ (n species : ℕ). with_value (place_in (axes_of before) line) (last n species) in
+    let named = λ (n species : ℕ). with_value (given_place_in (axes_of before) line) (last n species) in
     let counted = λ (n : ℕ). with_value (species_word_in (species_of before) (word_at line 2)) (named n) in
     let dims = valued (needs_walls (axes_of before)) (λ dims. passing (word_count (3 + dims) line ∷ []) (with_value (count_in 0 1000000 (word_at line 1)) counted)) one is in
     let words = passed (word_count (3 + dims.0) line) [] (with_value (count_in 0 1000000 (word_at line 1)) counted) one dims.2 in
     let n = valued (count_in 0 1000000 (word_at line 1)) counted one words.1 in
     let species = valued (species_word_in (species_of before) (word_at line 2)) (named n.0) one n.2 in
-    let at = valued (place_in (axes_of before) line) (last n.0 species.0) one species.2 in
+    let at = valued (given_place_in (axes_of before) line) (last n.0 species.0) one species.2 in
     let by = settled_by (axes_of before) dims.0 dims.1 in
     let lie = coordinates_are (axes_of before) line dims.0 at.0 by.0 by.1 h.axes at.1 in
     let made : Placing = placing.Mol n.0 species.0 at.0 in
@@ -274,14 +274,14 @@ block_keeps one before line said is h =
     of_blocks_kept before said (compartments_grow one (axes_of before) (species_of before) (blocks_said before) line said is)
     (blocks_keep one (axes_of before) (species_of before) (blocks_said before) line said is h.axes h.blocks) h
 
-cmd_keeps : (before : List Said) (line : Stated) (command : Command) → cmd_in (known_of before) (length (commands_of before)) line ≡ Ok command → stands_outside before ≡ true → IsSoFar before → IsSoFar (performs command ∷ before)
+cmd_keeps : (before : List Said) (line : Stated) (command : Command) → cmd_in (known_before before) (length (commands_of before)) line ≡ Ok command → stands_outside before ≡ true → IsSoFar before → IsSoFar (performs command ∷ before)
 unfolding cmd_in
 cmd_keeps before line command is outside h =
     let dims = valued (needs_walls (axes_of before)) _ command is in
-    let sound = commands_are_sound (known_of before) (length (commands_of before)) line command is h.axes in
+    let sound = commands_are_sound (known_before before) (length (commands_of before)) line command is h.axes in
     let closed = compartments_closed (dims_of before) (blocks_said before) h.blocks outside in
     performs_kept before command (is_settled (axes_of before) dims.0 dims.1)
-    (commands_are_few (known_of before) (length (commands_of before)) line command is)
+    (commands_are_few (known_before before) (length (commands_of before)) line command is)
     (subst (λ (count : ℕ). IsCommand (length (species_of before)) count (length (outputs_of before)) (walls_of (axes_of before)) command) closed sound) h
 
 -- a line that makes a statement keeps what holds so far
@@ -300,9 +300,9 @@ statement_keeps statement.Difc before line said place is h =
 statement_keeps statement.Difstep before line said place is h =
     let by = said_by (λ given. moves given.0 given.1) (difstep_in before line) said is in subst (λ (s : Said). IsSoFar (s ∷ before)) by.2 (moves_kept before by.0.0 by.0.1 h)
 statement_keeps statement.TimeStart before line said place is h =
-    let by = said_by starts (time_in (start_of before) line) said is in subst (λ (s : Said). IsSoFar (s ∷ before)) by.2 (starts_kept before by.0 (time_small (start_of before) line by.0 by.1) h)
+    let by = said_by starts (given_time_in (time_start_of before) line) said is in subst (λ (s : Said). IsSoFar (s ∷ before)) by.2 (starts_kept before by.0 (time_small (time_start_of before) line by.0 by.1) h)
 statement_keeps statement.TimeStop before line said place is h =
-    let by = said_by stops (time_in (stop_of before) line) said is in subst (λ (s : Said). IsSoFar (s ∷ before)) by.2 (stops_kept before by.0 (time_small (stop_of before) line by.0 by.1) h)
+    let by = said_by stops (given_time_in (time_stop_of before) line) said is in subst (λ (s : Said). IsSoFar (s ∷ before)) by.2 (stops_kept before by.0 (time_small (time_stop_of before) line by.0 by.1) h)
 statement_keeps statement.TimeStep before line said place is h =
     let by = said_by steps (time_step_in before line) said is in subst (λ (s : Said). IsSoFar (s ∷ before)) by.2 (time_step_keeps before line by.0 by.1 h)
 statement_keeps statement.MaxMol before line said place is h =
@@ -335,7 +335,7 @@ statement_keeps statement.OutputFiles before line said place is h =
     let by = said_by writes (output_files_in (outputs_of before) line) said is in
     subst (λ (s : Said). IsSoFar (s ∷ before)) by.2 (writes_kept before by.0 (files_are_few (outputs_of before) line by.0 by.1) h)
 statement_keeps statement.Cmd before line said place is h =
-    let by = said_by performs (cmd_in (known_of before) (length (commands_of before)) line) said is in subst (λ (s : Said). IsSoFar (s ∷ before)) by.2 (cmd_keeps before line by.0 by.1 place h)
+    let by = said_by performs (cmd_in (known_before before) (length (commands_of before)) line) said is in subst (λ (s : Said). IsSoFar (s ∷ before)) by.2 (cmd_keeps before line by.0 by.1 place h)
 
 pub line_keeps : (before : List Said) (line : Stated) (said : Said) → line_in before line ≡ Ok said → IsSoFar before → IsSoFar (said ∷ before)
 unfolding line_in

@@ -33,7 +33,7 @@ use Rattle.smol_config.specs.declared.whole.Needed.{Needed}
 use Rattle.smol_config.specs.Said.{Said}
 use Rattle.smol_config.specs.Axes.{axes_of, bounds_of, dims_of}
 use Rattle.smol_config.specs.Species.{species_of}
-use Rattle.smol_config.specs.Times.{start_of, stop_of, step_of}
+use Rattle.smol_config.specs.Times.{time_start_of, time_stop_of, time_step_of}
 use Rattle.smol_config.specs.MaxMol.{max_mol_of, limit_of}
 use Rattle.smol_config.specs.Mol.{placings_of}
 use Rattle.smol_config.specs.Reactions.{reactions_said}
@@ -54,12 +54,12 @@ in_line line (Err kind) found is = absurd cc
 -- what a file can't do without is given
 pub needed_is : (before : List Said) (needed : Needed) → needed_in before ≡ Ok needed
     → (dims_of before ≡ Some needed.dims) × (is_walled needed.dims 0 (bounds_of 0 before) ≡ true) × (is_walled needed.dims 1 (bounds_of 1 before) ≡ true) × (is_walled needed.dims 2 (bounds_of 2 before) ≡ true)
-    × (stop_of before ≡ Some needed.stop) × (step_of before ≡ Some needed.step)
+    × (time_stop_of before ≡ Some needed.stop) × (time_step_of before ≡ Some needed.step)
 unfolding needed_in
 needed_is before needed is =
     let last = λ (dims : ℕ) (stop step : ℤ). let all : Result Needed Kind = Ok (record { dims = dims; stop = stop; step = step }) in all in
-    let timed = λ (dims : ℕ) (stop : ℤ). with_value (there (step_of before) (kind.Missing need.TimeStep)) (last dims stop) in
-    let rest = λ (dims : ℕ). with_value (there (stop_of before) (kind.Missing need.TimeStop)) (timed dims) in
+    let timed = λ (dims : ℕ) (stop : ℤ). with_value (there (time_step_of before) (kind.Missing need.TimeStep)) (last dims stop) in
+    let rest = λ (dims : ℕ). with_value (there (time_stop_of before) (kind.Missing need.TimeStop)) (timed dims) in
     let x = λ (dims : ℕ). unless (is_walled dims 0 (bounds_of 0 before)) (kind.Missing (need.Boundaries 0)) in
     let y = λ (dims : ℕ). unless (is_walled dims 1 (bounds_of 1 before)) (kind.Missing (need.Boundaries 1)) in
     let z = λ (dims : ℕ). unless (is_walled dims 2 (bounds_of 2 before)) (kind.Missing (need.Boundaries 2)) in
@@ -67,18 +67,18 @@ needed_is before needed is =
     let a = passed (x dims.0) (y dims.0 ∷ z dims.0 ∷ []) (rest dims.0) needed dims.2 in
     let b = passed (y dims.0) (z dims.0 ∷ []) (rest dims.0) needed a.1 in
     let c = passed (z dims.0) [] (rest dims.0) needed b.1 in
-    let stop = valued (there (stop_of before) (kind.Missing need.TimeStop)) (timed dims.0) needed c.1 in
-    let step = valued (there (step_of before) (kind.Missing need.TimeStep)) (last dims.0 stop.0) needed stop.2 in
+    let stop = valued (there (time_stop_of before) (kind.Missing need.TimeStop)) (timed dims.0) needed c.1 in
+    let step = valued (there (time_step_of before) (kind.Missing need.TimeStep)) (last dims.0 stop.0) needed stop.2 in
     let made : Needed = record { dims = dims.0; stop = stop.0; step = step.0 } in
     let same : made ≡ needed = cc in
     subst (λ (needed : Needed). (dims_of before ≡ Some needed.dims) × (is_walled needed.dims 0 (bounds_of 0 before) ≡ true) × (is_walled needed.dims 1 (bounds_of 1 before) ≡ true) × (is_walled needed.dims 2 (bounds_of 2 before) ≡ true)
-    × (stop_of before ≡ Some needed.stop) × (step_of before ≡ Some needed.step)) same (
+    × (time_stop_of before ≡ Some needed.stop) × (time_step_of before ≡ Some needed.step)) same (
       is_there (dims_of before) (kind.Missing need.Dim) dims.0 dims.1,
       holds (is_walled dims.0 0 (bounds_of 0 before)) (kind.Missing (need.Boundaries 0)) a.0,
       holds (is_walled dims.0 1 (bounds_of 1 before)) (kind.Missing (need.Boundaries 1)) b.0,
       holds (is_walled dims.0 2 (bounds_of 2 before)) (kind.Missing (need.Boundaries 2)) c.0,
-      is_there (stop_of before) (kind.Missing need.TimeStop) stop.0 stop.1,
-      is_there (step_of before) (kind.Missing need.TimeStep) step.0 step.1,
+      is_there (time_stop_of before) (kind.Missing need.TimeStop) stop.0 stop.1,
+      is_there (time_step_of before) (kind.Missing need.TimeStep) step.0 step.1,
     )
 
 -- nothing in what is accepted is too much
@@ -178,7 +178,7 @@ content_is_sound before needed h is few near room shared =
     let axes = rw given.0 at h.axes.dims in
     let stop = rw given.4 at h.stop in
     let step = rw given.5 at h.step in
-    let start = time_within (start_of before) h.start in
+    let start = time_within (time_start_of before) h.start in
     let most = limit_within (max_mol_of before) h.max_mol in
     let Q : ℕ → Option Bounds → Option ℕ → Type 0 = λ axis bounds dims. IfSome bounds (IsBounded dims axis) in
     let walls = are_walls needed.dims (bounds_of 0 before) (bounds_of 1 before) (bounds_of 2 before) axes.0 axes.1 given.1 given.2 given.3

@@ -25,5 +25,5 @@ abbrev pub commands_of : List Said → List Command
 commands_of before = gathered said_command before
 
 -- what a command may name behind the lines before
-abbrev pub known_of : List Said → Known
-known_of before = known (axes_of before) (species_of before) (compartment_names (blocks_said before)) (outputs_of before)
+abbrev pub known_before : List Said → Known
+known_before before = known (axes_of before) (species_of before) (compartment_names (blocks_said before)) (outputs_of before)

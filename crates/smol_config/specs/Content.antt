@@ -10,9 +10,9 @@ use Rattle.smol_config.specs.Said.{Said}
 use Rattle.smol_config.specs.Axes.{axes_of}
 use Rattle.smol_config.specs.Species.{species_of}
 use Rattle.smol_config.specs.Motion.{motion_of, difstep_of}
-use Rattle.smol_config.specs.Times.{start_of}
+use Rattle.smol_config.specs.Times.{time_start_of}
 use Rattle.smol_config.specs.MaxMol.{max_mol_of, limit_of}
-use Rattle.smol_config.specs.RandomSeed.{seed_of}
+use Rattle.smol_config.specs.RandomSeed.{random_seed_of}
 use Rattle.smol_config.specs.Mol.{placings_of}
 use Rattle.smol_config.specs.Reactions.{reactions_said}
 use Rattle.smol_config.specs.Blocks.{blocks_said}
@@ -41,9 +41,9 @@ content_of needed before = record {
   placings = placings_of before;
   commands = commands_of before;
   outputs = outputs_of before;
-  start = started (start_of before);
+  start = started (time_start_of before);
   stop = needed.stop;
   step = needed.step;
   max_mol = limit_of (max_mol_of before);
-  seed = seed_of before;
+  seed = random_seed_of before;
 }

@@ -19,13 +19,13 @@ said_seed (seeds seed) = Some seed
 said_seed other = None
 
 -- the seed, where a line before gives it
-abbrev pub seed_of : List Said → Option ℕ
-seed_of before = nearest said_seed before
+abbrev pub random_seed_of : List Said → Option ℕ
+random_seed_of before = nearest said_seed before
 
 unfoldable pub random_seed_in : List Said → Stated → Result ℕ Kind
 random_seed_in before line =
     passing
-    (once (seed_of before)
+    (once (random_seed_of before)
     ∷ word_count 2 line
     ∷ unless (not (bytes_eq (word_at line 1) (codes "time"))) NotInProfile
     ∷ [])

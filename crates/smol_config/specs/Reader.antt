@@ -20,7 +20,7 @@ use Rattle.smol_config.specs.Axes.{axes_of, dims_of}
 use Rattle.smol_config.specs.Dim.{dim_in}
 use Rattle.smol_config.specs.Species.{species_in, species_of}
 use Rattle.smol_config.specs.Motion.{difc_in, difstep_in}
-use Rattle.smol_config.specs.Times.{start_of, stop_of, time_in, time_step_in}
+use Rattle.smol_config.specs.Times.{time_start_of, time_stop_of, given_time_in, time_step_in}
 use Rattle.smol_config.specs.MaxMol.{max_mol_in}
 use Rattle.smol_config.specs.RandomSeed.{random_seed_in}
 use Rattle.smol_config.specs.Boundaries.{boundaries_in}
@@ -28,7 +28,7 @@ use Rattle.smol_config.specs.Mol.{mol_in}
 use Rattle.smol_config.specs.Reactions.{reactions_said}
 use Rattle.smol_config.specs.Blocks.{blocks_said, stands_outside}
 use Rattle.smol_config.specs.CompartmentMol.{compartment_mol_in}
-use Rattle.smol_config.specs.Commands.{commands_of, known_of, outputs_of}
+use Rattle.smol_config.specs.Commands.{commands_of, known_before, outputs_of}
 use Rattle.smol_config.specs.Whole.{whole_in}
 
 -- what a line says that makes this statement, or its fault
@@ -40,8 +40,8 @@ statement_in Dim before line = say axes (dim_in (axes_of before) line)
 statement_in Species before line = say names (species_in before line)
 statement_in Difc before line = say (λ given. moves given.0 given.1) (difc_in before line)
 statement_in Difstep before line = say (λ given. moves given.0 given.1) (difstep_in before line)
-statement_in TimeStart before line = say starts (time_in (start_of before) line)
-statement_in TimeStop before line = say stops (time_in (stop_of before) line)
+statement_in TimeStart before line = say starts (given_time_in (time_start_of before) line)
+statement_in TimeStop before line = say stops (given_time_in (time_stop_of before) line)
 statement_in TimeStep before line = say steps (time_step_in before line)
 statement_in MaxMol before line = say limits (max_mol_in before line)
 statement_in RandomSeed before line = say seeds (random_seed_in before line)
@@ -56,7 +56,7 @@ statement_in ProductPlacement before line =
     say of_reactions (product_placement_said (dims_of before) (species_of before) (reactions_said before) line)
 statement_in (Block one) before line = say of_blocks (block_line_in one (axes_of before) (species_of before) (blocks_said before) line)
 statement_in OutputFiles before line = say writes (output_files_in (outputs_of before) line)
-statement_in Cmd before line = say performs (cmd_in (known_of before) (length (commands_of before)) line)
+statement_in Cmd before line = say performs (cmd_in (known_before before) (length (commands_of before)) line)
 
 -- the same, where the place of the statement is tested first
 abbrev pub placed_in : Statement → List Said → Stated → Result Said Kind

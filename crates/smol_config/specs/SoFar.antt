@@ -9,7 +9,7 @@ use Rattle.smol_reactions.specs.Sound.{AreReactions}
 use Rattle.smol_config.specs.Said.{Said}
 use Rattle.smol_config.specs.Axes.{axes_of, dims_of}
 use Rattle.smol_config.specs.Species.{species_of}
-use Rattle.smol_config.specs.Times.{start_of, stop_of, step_of}
+use Rattle.smol_config.specs.Times.{time_start_of, time_stop_of, time_step_of}
 use Rattle.smol_config.specs.MaxMol.{max_mol_of}
 use Rattle.smol_config.specs.Mol.{placings_of}
 use Rattle.smol_config.specs.Reactions.{reactions_said}
@@ -19,9 +19,9 @@ use Rattle.smol_config.specs.Commands.{commands_of, outputs_of}
 pub record IsSoFar (before : List Said) : Type 0 where
   pub axes : AreAxes (axes_of before)
   pub species : length (species_of before) ≤ most_species
-  pub start : IfSome (start_of before) (λ time. unsigned_abs time ≤ latest)
-  pub stop : IfSome (stop_of before) (λ time. unsigned_abs time ≤ latest)
-  pub step : IfSome (step_of before) (λ time. (unsigned_abs time ≤ latest) × (pos 0 <ℤ time))
+  pub start : IfSome (time_start_of before) (λ time. unsigned_abs time ≤ latest)
+  pub stop : IfSome (time_stop_of before) (λ time. unsigned_abs time ≤ latest)
+  pub step : IfSome (time_step_of before) (λ time. (unsigned_abs time ≤ latest) × (pos 0 <ℤ time))
   pub max_mol : IfSome (max_mol_of before) (λ count. (1 ≤ count) × (count ≤ most_molecules))
   -- what stands between walls is said behind them
   pub settled : 0 < length (placings_of before) + length (commands_of before) → AreSettled (axes_of before)

@@ -22,9 +22,9 @@ use Rattle.smol_config.specs.Said.{Said}
 use Rattle.smol_config.specs.Axes.{axes_of}
 use Rattle.smol_config.specs.Species.{species_of}
 use Rattle.smol_config.specs.Motion.{still, motion_of, difstep_of}
-use Rattle.smol_config.specs.Times.{start_of, stop_of, step_of}
+use Rattle.smol_config.specs.Times.{time_start_of, time_stop_of, time_step_of}
 use Rattle.smol_config.specs.MaxMol.{limit_of, max_mol_of}
-use Rattle.smol_config.specs.RandomSeed.{seed_of}
+use Rattle.smol_config.specs.RandomSeed.{random_seed_of}
 use Rattle.smol_config.specs.Mol.{placings_of}
 use Rattle.smol_config.specs.Reactions.{reactions_said}
 use Rattle.smol_config.specs.Blocks.{blocks_said, stands_outside}
@@ -37,11 +37,11 @@ pub record Holds (tables : Tables) (before : List Said) : Type 0 where
   pub axes : tables.axes ≡ axes_of before
   pub species : tables.species.names ≡ species_of before
   pub motions : (number : ℕ) → slice_index_or tables.species.motions.items number still ≡ motion_of number before
-  pub start : tables.start ≡ start_of before
-  pub stop : tables.stop ≡ stop_of before
-  pub step : tables.step ≡ step_of before
+  pub start : tables.start ≡ time_start_of before
+  pub stop : tables.stop ≡ time_stop_of before
+  pub step : tables.step ≡ time_step_of before
   pub max_mol : tables.max_mol ≡ max_mol_of before
-  pub seed : tables.seed ≡ seed_of before
+  pub seed : tables.seed ≡ random_seed_of before
   pub placings : tables.placings ≡ placings_of before
   pub reactions : HoldsReactions tables.reactions (reactions_said before)
   pub kept : IsKept tables.reactions

@@ -27,20 +27,20 @@ said_step (steps time) = Some time
 said_step other = None
 
 -- the time at which the run starts, where a line before gives it, and so on
-abbrev pub start_of : List Said → Option ℤ
-start_of before = nearest said_start before
+abbrev pub time_start_of : List Said → Option ℤ
+time_start_of before = nearest said_start before
 
-abbrev pub stop_of : List Said → Option ℤ
-stop_of before = nearest said_stop before
+abbrev pub time_stop_of : List Said → Option ℤ
+time_stop_of before = nearest said_stop before
 
-abbrev pub step_of : List Said → Option ℤ
-step_of before = nearest said_step before
+abbrev pub time_step_of : List Said → Option ℤ
+time_step_of before = nearest said_step before
 
 -- the time of a line, by what a line before gives by the same statement
-unfoldable pub time_in : Option ℤ → Stated → Result ℤ Kind
-time_in given line = passing (once given ∷ word_count 2 line ∷ []) (nanos_in (word_at line 1))
+unfoldable pub given_time_in : Option ℤ → Stated → Result ℤ Kind
+given_time_in given line = passing (once given ∷ word_count 2 line ∷ []) (nanos_in (word_at line 1))
 
 -- the same of a step, which takes some time
 unfoldable pub time_step_in : List Said → Stated → Result ℤ Kind
 time_step_in before line =
-    with_value (time_in (step_of before) line) (λ time. passing (unless (int_lt (pos 0) time) OutOfRange ∷ []) (Ok time))
+    with_value (given_time_in (time_step_of before) line) (λ time. passing (unless (int_lt (pos 0) time) OutOfRange ∷ []) (Ok time))

@@ -17,7 +17,7 @@ use Rattle.smol_reactions.specs.Content.{are_shared, chances_of}
 use Rattle.smol_config.specs.declared.whole.Needed.{Needed}
 use Rattle.smol_config.specs.Said.{Said}
 use Rattle.smol_config.specs.Axes.{bounds_of, dims_of}
-use Rattle.smol_config.specs.Times.{stop_of, step_of}
+use Rattle.smol_config.specs.Times.{time_stop_of, time_step_of}
 use Rattle.smol_config.specs.Reactions.{reactions_said}
 use Rattle.smol_config.specs.Blocks.{blocks_said}
 use Rattle.smol_config.specs.Content.{content_of}
@@ -31,8 +31,8 @@ needed_in before =
     ∷ unless (is_walled dims 1 (bounds_of 1 before)) (Missing (Boundaries 1))
     ∷ unless (is_walled dims 2 (bounds_of 2 before)) (Missing (Boundaries 2))
     ∷ [])
-    (with_value (there (stop_of before) (Missing TimeStop)) (λ stop.
-    with_value (there (step_of before) (Missing TimeStep)) (λ step.
+    (with_value (there (time_stop_of before) (Missing TimeStop)) (λ stop.
+    with_value (there (time_step_of before) (Missing TimeStep)) (λ step.
     Ok (record { dims = dims; stop = stop; step = step })))))
 
 -- a run makes no more steps than it may

@@ -3,11 +3,11 @@ ghost use Rattle.std.specs.Prelude.{◌≡◌, ◌≤◌, ◌<◌, pos, length};
 ghost use Rattle.smol_types.specs.Limits.{most_species};
 ghost use Rattle.smol_types.specs.declared.placing.Given.TheVariants.{At};
 ghost use Rattle.smol_line.specs.Axes.{read_axis};
-ghost use Rattle.smol_config.specs.Mol.{given_in, mol_in, place_in};
+ghost use Rattle.smol_config.specs.Mol.{given_in, mol_in, given_place_in};
 
 use smol_line::{
-    Axes, Bounds, NameSet, coordinate_between, count_in, needs_walls, species_word_in, spells,
-    word_at, word_count,
+    Axes, Bounds, NameSet, coordinate_in, count_in, needs_walls, species_word_in, spells, word_at,
+    word_count,
 };
 use smol_text::StatedLine;
 use smol_types::{Given, Kind, Placing};
@@ -23,7 +23,7 @@ fn given_in(bounds: &Bounds, word: &[u8]) -> Result<Given, Kind>
     if spells(word, "u") {
         return Ok(Given::Any);
     }
-    Ok(Given::At(coordinate_between(bounds, word)?))
+    Ok(Given::At(coordinate_in(bounds, word)?))
 }
 
 // The coordinate of a line on an axis.
@@ -39,8 +39,8 @@ fn given_at(axis: usize, bounds: &Option<Bounds>, line: &StatedLine<'_>) -> Resu
 
 // The coordinates of a line on the three axes.
 #[tactic(auto, unfolding(smol_line::specs::Axes::read_axes))]
-fn place_in(axes: &Axes, line: &StatedLine<'_>) -> Result<[Given; 3], Kind>
-    ensures { result ≡ place_in axes.now line.now }
+fn given_place_in(axes: &Axes, line: &StatedLine<'_>) -> Result<[Given; 3], Kind>
+    ensures { result ≡ given_place_in axes.now line.now }
 {
     let x = given_at(0, &axes.x, line)?;
     let y = given_at(1, &axes.y, line)?;
@@ -58,6 +58,6 @@ pub fn judge(axes: &Axes, species: &NameSet, line: &StatedLine<'_>) -> Result<Pl
     word_count(3 + dims as usize, line)?;
     let n = count_in(0, MOST_MOLECULES, word_at(line, 1))? as u32;
     let species = species_word_in(species, word_at(line, 2))?;
-    let at = place_in(axes, line)?;
+    let at = given_place_in(axes, line)?;
     Ok(Placing::Mol { n, species, at })
 }

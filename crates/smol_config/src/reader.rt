@@ -1,7 +1,7 @@
 //! The whole reader.
 ghost use Rattle.std.specs.Prelude.{◌≡◌, List, Ok, IfOk, IfErr};
 ghost use Rattle.smol_text.specs.Spans.{stated_lines};
-ghost use Rattle.smol_line.specs.Fault.{Tells};
+ghost use Rattle.smol_line.specs.Fault.{TellsFault};
 ghost use Rattle.smol_config.specs.Reader.{config_from, config_of};
 ghost use Rattle.smol_config.specs.Said.{Said};
 ghost use Rattle.smol_config.specs.Tables.{Holds, IsReached};
@@ -56,7 +56,7 @@ fn lines_told(fault: TextFault) -> ConfigFault
 fn finish_whole(alloc: Global, tables: Tables) -> Result<Config, ConfigFault>
     requires { IsReached tables }
     ensures accepted { IfOk result (λ config. (before : List Said) → Holds tables before → whole_in before ≡ Ok config) }
-    ensures refused { IfErr result (λ fault. (before : List Said) → Holds tables before → Tells fault (whole_in before)) }
+    ensures refused { IfErr result (λ fault. (before : List Said) → Holds tables before → TellsFault fault (whole_in before)) }
 {
     match tables.blocks.opening_line() {
         Some(line) => Err(told_at(line, Refusal::At(Kind::OpenBlock))),
@@ -70,7 +70,7 @@ fn finish_whole(alloc: Global, tables: Tables) -> Result<Config, ConfigFault>
 // Reads the lines of a text that make statements.
 fn read_lines(alloc: Global, text: &Text) -> Result<Config, ConfigFault>
     ensures accepted { IfOk result (λ config. config_from (stated_lines text.now) ≡ Ok config) }
-    ensures refused { IfErr result (λ fault. Tells fault (config_from (stated_lines text.now))) }
+    ensures refused { IfErr result (λ fault. TellsFault fault (config_from (stated_lines text.now))) }
 {
     let mut tables = Tables::new(alloc);
     for k in 0..text.len() {
@@ -87,7 +87,7 @@ fn read_lines(alloc: Global, text: &Text) -> Result<Config, ConfigFault>
 #[tactic(auto, unfolding(crate::specs::Reader::config_of))]
 pub fn read_config(alloc: Global, bytes: &[u8]) -> Result<Config, ConfigFault>
     ensures accepted { IfOk result (λ config. config_of bytes.now ≡ Ok config) }
-    ensures refused { IfErr result (λ fault. Tells fault (config_of bytes.now)) }
+    ensures refused { IfErr result (λ fault. TellsFault fault (config_of bytes.now)) }
 {
     if bytes.len() > MOST_BYTES {
         return Err(ConfigFault::At {

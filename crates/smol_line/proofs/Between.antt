@@ -9,7 +9,7 @@ use Rattle.smol_types.specs.Walls.{LiesBetween}
 use Rattle.smol_line.specs.declared.axes.Axes.{Axes}
 use Rattle.smol_line.specs.declared.axes.Bounds.{Bounds}
 use Rattle.smol_line.specs.Axes.{are_walled, is_walled, needs_dim, needs_walls}
-use Rattle.smol_line.specs.Coordinate.{coordinate_between, inside, ticks_within}
+use Rattle.smol_line.specs.Coordinate.{coordinate_in, inside, ticks_within}
 use Rattle.smol_line.specs.Length.{micros_in}
 use Rattle.smol_line.proofs.Passing.{both, is_there, valued}
 
@@ -64,7 +64,7 @@ inside_between axis bounds x found true ordered tests is =
 inside_between axis bounds x found false ordered tests is = absurd cc
 
 -- a coordinate between two walls lies there
-pub coordinate_lies : (axis : ℕ) (bounds : Bounds) (word : List ℕ) (found : ℤ) → bounds.low.0 <ℤ bounds.high.0 → coordinate_between bounds word ≡ Ok found → LiesBetween (lower_wall axis bounds) (upper_wall axis bounds) found
+pub coordinate_lies : (axis : ℕ) (bounds : Bounds) (word : List ℕ) (found : ℤ) → bounds.low.0 <ℤ bounds.high.0 → coordinate_in bounds word ≡ Ok found → LiesBetween (lower_wall axis bounds) (upper_wall axis bounds) found
 coordinate_lies axis bounds word found ordered is =
     let x = valued (micros_in word) (inside bounds) found is in
     inside_between axis bounds x.0 found (int_le bounds.low.0 x.0 && int_le x.0 bounds.high.0) ordered refl x.2

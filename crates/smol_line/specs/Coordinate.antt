@@ -16,5 +16,5 @@ abbrev pub inside : Bounds → ℤ → Result ℤ Kind
 inside bounds x = if int_le bounds.low.0 x && int_le x bounds.high.0 then Ok (ticks_within bounds x) else Err OutsideWalls
 
 -- the coordinate of a molecule between two walls
-abbrev pub coordinate_between : Bounds → List ℕ → Result ℤ Kind
-coordinate_between bounds word = with_value (micros_in word) (inside bounds)
+abbrev pub coordinate_in : Bounds → List ℕ → Result ℤ Kind
+coordinate_in bounds word = with_value (micros_in word) (inside bounds)

@@ -19,6 +19,6 @@ at_line line (Ok value) = Ok value
 at_line line (Err kind) = Err (fault_at line kind)
 
 -- a fault that is told is the outcome, and want of memory tells nothing
-abbrev pub Tells : {T : Type 0} → ConfigFault → Result T Fault → Type 0
-Tells (At line kind) outcome = outcome ≡ Err (fault_at line kind)
-Tells OutOfMemory outcome = Unit {0}
+abbrev pub TellsFault : {T : Type 0} → ConfigFault → Result T Fault → Type 0
+TellsFault (At line kind) outcome = outcome ≡ Err (fault_at line kind)
+TellsFault OutOfMemory outcome = Unit {0}

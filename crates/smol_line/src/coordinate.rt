@@ -1,7 +1,7 @@
 //! Words that are coordinates of molecules.
 ghost use Rattle.std.specs.Prelude.{◌≡◌, ◌≤◌, ◌+◌, unsigned_abs};
 ghost use Rattle.smol_line.specs.Length.{most_micros};
-ghost use Rattle.smol_line.specs.Coordinate.{coordinate_between, inside, ticks_within};
+ghost use Rattle.smol_line.specs.Coordinate.{coordinate_in, inside, ticks_within};
 
 use crate::axes::Bounds;
 use crate::length::micros_in;
@@ -32,8 +32,8 @@ fn inside(bounds: &Bounds, x: i64) -> Result<i64, Kind>
 }
 
 /// The coordinate of a molecule between two walls, in ticks.
-pub fn coordinate_between(bounds: &Bounds, word: &[u8]) -> Result<i64, Kind>
-    ensures { result ≡ coordinate_between bounds.now word.now }
+pub fn coordinate_in(bounds: &Bounds, word: &[u8]) -> Result<i64, Kind>
+    ensures { result ≡ coordinate_in bounds.now word.now }
 {
     let x = micros_in(word)?;
     inside(bounds, x)

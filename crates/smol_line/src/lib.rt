@@ -16,7 +16,7 @@ mod words;
 pub use axes::{Axes, Bounds, is_walled, needs_dim, needs_walls};
 pub use axis::axis_in;
 pub use checks::{once, unless, word_count};
-pub use coordinate::{coordinate_between, ticks_within};
+pub use coordinate::{coordinate_in, ticks_within};
 pub use length::micros_in;
 pub use name_set::NameSet;
 pub use names::{name_in, new_name_in};

@@ -8,7 +8,7 @@ use Rattle.smol_reactions.specs.declared.product_placement.ProductPlacement.{Pro
 use Rattle.smol_reactions.specs.declared.product_placement.ProductPlacement.TheVariants.{Offset, Unbind}
 use Rattle.smol_reactions.specs.Numbered.{numbered, changed}
 use Rattle.smol_reactions.specs.ReactionSaid.{ReactionSaid, reacts, binds, happens, places}
-use Rattle.smol_reactions.specs.Content.{schemes_of, of_reaction, radius_said, chance_said, offset_by, offset_said, unbinding, unbinding_said, kind_of, kind_said, product_made, reaction_made, reactions_of, kinds_of, chances_of}
+use Rattle.smol_reactions.specs.Content.{schemes_of, of_reaction, radius_said, chance_said, offset_by, offset_said, unbinding, unbinding_said, placement_kind_of, kind_said, product_made, reaction_made, reactions_of, kinds_of, chances_of}
 use Rattle.smol_reactions.specs.Changes.{fresh_product, fresh_reaction, with_chance, with_offset, with_placement, with_radius}
 use Rattle.smol_reactions.specs.Order.{AreOrdered}
 use Rattle.smol_reactions.proofs.Lists.{numbered-push, numbered_same, numbered_changed}
@@ -39,11 +39,11 @@ chances_more said number chance =
     (λ k scheme other. rw (other_reaction k number (Some chance) other) refl)
     (λ scheme. rw (this_reaction number (Some chance)) refl)
 
-pub kinds_more : (said : List ReactionSaid) (number : ℕ) (placement : ProductPlacement) → kinds_of (places number placement ∷ said) ≡ changed (λ _. Some (kind_of placement)) number (kinds_of said)
+pub kinds_more : (said : List ReactionSaid) (number : ℕ) (placement : ProductPlacement) → kinds_of (places number placement ∷ said) ≡ changed (λ _. Some (placement_kind_of placement)) number (kinds_of said)
 kinds_more said number placement =
-    numbered_changed (λ k (scheme : Scheme). nearest (kind_said k) said) (λ k (scheme : Scheme). nearest (kind_said k) (places number placement ∷ said)) (λ _. Some (kind_of placement)) 0 number number (schemes_of said) (omega arith)
-    (λ k scheme other. rw (other_reaction k number (Some (kind_of placement)) other) refl)
-    (λ scheme. rw (this_reaction number (Some (kind_of placement))) refl)
+    numbered_changed (λ k (scheme : Scheme). nearest (kind_said k) said) (λ k (scheme : Scheme). nearest (kind_said k) (places number placement ∷ said)) (λ _. Some (placement_kind_of placement)) 0 number number (schemes_of said) (omega arith)
+    (λ k scheme other. rw (other_reaction k number (Some (placement_kind_of placement)) other) refl)
+    (λ scheme. rw (this_reaction number (Some (placement_kind_of placement))) refl)
 
 -- a placement of another reaction leaves the products of this one
 products_elsewhere : (said : List ReactionSaid) (number k : ℕ) (placement : ProductPlacement) (products : List ℕ) → k ≢ number → numbered (product_made (places number placement ∷ said) k) 0 products ≡ numbered (product_made said k) 0 products
@@ -119,7 +119,7 @@ no_chance =
 no_kind : (said : List ReactionSaid) (number : ℕ) → AreOrdered said → length (schemes_of said) ≤ number → nearest (kind_said number) said ≡ None
 no_kind =
     quiet kind_said (λ number scheme. refl) (λ number other radius apart. refl)
-    (λ number other chance apart. refl) (λ number other placement apart. other_reaction number other (Some (kind_of placement)) apart)
+    (λ number other chance apart. refl) (λ number other placement apart. other_reaction number other (Some (placement_kind_of placement)) apart)
 
 no_unbinding : (said : List ReactionSaid) (number : ℕ) → AreOrdered said → length (schemes_of said) ≤ number → nearest (unbinding_said number) said ≡ None
 no_unbinding =

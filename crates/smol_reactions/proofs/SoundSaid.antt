@@ -28,10 +28,10 @@ use Rattle.smol_reactions.specs.declared.product_placement.PlacementKind.TheVari
 use Rattle.smol_reactions.specs.declared.product_placement.ProductPlacement.{ProductPlacement}
 use Rattle.smol_reactions.specs.declared.product_placement.ProductPlacement.TheVariants as placement
 use Rattle.smol_reactions.specs.Numbered.{changed}
-use Rattle.smol_reactions.specs.Reaction.{names_of, reaction_in}
+use Rattle.smol_reactions.specs.Reaction.{reaction_names_of, reaction_in}
 use Rattle.smol_reactions.specs.BindingRadius.{binding_radius_in, distance_in, reaction_at}
 use Rattle.smol_reactions.specs.ReactionProbability.{reaction_probability_in}
-use Rattle.smol_reactions.specs.ProductPlacement.{kind_in, offset_at, offset_in, placement_in, product_in, product_placement_in, species_made, takes, words_for}
+use Rattle.smol_reactions.specs.ProductPlacement.{kind_in, offset_at, offset_in, placement_in, product_in, product_placement_in, product_species, takes, words_for}
 use Rattle.smol_reactions.specs.ReactionSaid.{ReactionSaid, reacts, binds, happens, places}
 use Rattle.smol_reactions.specs.Content.{kinds_of, reaction_made, reactions_of, schemes_of, usual_threshold}
 use Rattle.smol_reactions.specs.Changes.{fresh_product, fresh_reaction, with_chance, with_offset, with_placement, with_radius}
@@ -227,32 +227,32 @@ unbind_keeps dims count distance reaction two within sound = record {
 }
 
 -- what a placement that a line gives keeps
-placement_keeps : (wanted : PlacementKind) (dims count : ℕ) (species : List (List ℕ)) (line : Stated) (given : ProductPlacement) (reaction : Reaction) → placement_in wanted dims species (species_made reaction.products) line ≡ Ok given → IsReaction dims count reaction → IsReaction dims count (with_placement given reaction)
+placement_keeps : (wanted : PlacementKind) (dims count : ℕ) (species : List (List ℕ)) (line : Stated) (given : ProductPlacement) (reaction : Reaction) → placement_in wanted dims species (product_species reaction.products) line ≡ Ok given → IsReaction dims count reaction → IsReaction dims count (with_placement given reaction)
 unfolding placement_in
 placement_keeps kind.Offset dims count species line given reaction is sound =
-    let product = valued (product_in species (species_made reaction.products) (word_at line 3)) _ given is in
+    let product = valued (product_in species (product_species reaction.products) (word_at line 3)) _ given is in
     let offset = valued (offset_in dims line) _ given product.2 in
     subst (λ given. IsReaction dims count (with_placement given reaction)) (same_value (placement.Offset product.0 offset.0) given offset.2)
     (offset_keeps dims count product.0 offset.0 reaction (offset_sound dims line offset.0 offset.1) sound)
 placement_keeps kind.Unbindrad dims count species line given reaction is sound =
-    let two = held (length (species_made reaction.products) == 2) BadReaction [] _ given is in
+    let two = held (length (product_species reaction.products) == 2) BadReaction [] _ given is in
     let distance = valued (distance_in (word_at line 3)) _ given two.1 in
-    let many : length (species_made reaction.products) ≡ length reaction.products = length-map reaction.products (λ (product : Product). product.species) in
+    let many : length (product_species reaction.products) ≡ length reaction.products = length-map reaction.products (λ (product : Product). product.species) in
     let count_is : length reaction.products ≡ 2 = let test = two.0 in grind (arith, nat_tests) in
     subst (λ given. IsReaction dims count (with_placement given reaction)) (same_value (placement.Unbind distance.0) given distance.2)
     (unbind_keeps dims count distance.0 reaction count_is (distance_within (word_at line 3) distance.0 distance.1) sound)
 
-names_many : (said : List ReactionSaid) → length (names_of (reactions_of said)) ≡ length (schemes_of said)
+names_many : (said : List ReactionSaid) → length (reaction_names_of (reactions_of said)) ≡ length (schemes_of said)
 names_many said =
     length-map (reactions_of said) (λ (reaction : Reaction). reaction.name) ∙ length-numbered (reaction_made said) 0 (schemes_of said)
 
-number_behind : (said : List ReactionSaid) (word : List ℕ) (number : ℕ) → number_in (names_of (reactions_of said)) word ≡ Ok number → number < length (schemes_of said)
+number_behind : (said : List ReactionSaid) (word : List ℕ) (number : ℕ) → number_in (reaction_names_of (reactions_of said)) word ≡ Ok number → number < length (schemes_of said)
 number_behind said word number is =
-    subst (λ (count : ℕ). number < count) (names_many said) (number_in-within (names_of (reactions_of said)) word number is)
+    subst (λ (count : ℕ). number < count) (names_many said) (number_in-within (reaction_names_of (reactions_of said)) word number is)
 
-reacts_keeps : (dims : Option ℕ) (species : List (List ℕ)) (said : List ReactionSaid) (line : Stated) (scheme : Scheme) → reaction_in species (names_of (reactions_of said)) line ≡ Ok scheme → AreReactions dims (length species) said → AreReactions dims (length species) (reacts scheme ∷ said)
+reacts_keeps : (dims : Option ℕ) (species : List (List ℕ)) (said : List ReactionSaid) (line : Stated) (scheme : Scheme) → reaction_in species (reaction_names_of (reactions_of said)) line ≡ Ok scheme → AreReactions dims (length species) said → AreReactions dims (length species) (reacts scheme ∷ said)
 reacts_keeps dims species said line scheme rule sound =
-    let given = given_is species (names_of (reactions_of said)) line scheme rule in
+    let given = given_is species (reaction_names_of (reactions_of said)) line scheme rule in
     let room = given.room in
     let many = names_many said in
     let more : length (schemes_of said ++ scheme ∷ []) ≡ length (schemes_of said) + 1 = length-append (schemes_of said) (scheme ∷ []) in
@@ -265,7 +265,7 @@ reacts_keeps dims species said line scheme rule sound =
 
 pub reaction_keeps : (dims : Option ℕ) (species : List (List ℕ)) (said : List ReactionSaid) (line : Stated) (more : ReactionSaid) → reaction_said species said line ≡ Ok more → AreReactions dims (length species) said → AreReactions dims (length species) (more ∷ said)
 reaction_keeps dims species said line more is sound =
-    let by = said_by reacts (reaction_in species (names_of (reactions_of said)) line) more is in
+    let by = said_by reacts (reaction_in species (reaction_names_of (reactions_of said)) line) more is in
     subst (λ more. AreReactions dims (length species) (more ∷ said)) by.2 (reacts_keeps dims species said line by.0 by.1 sound)
 
 -- what holds where a radius is given
@@ -280,7 +280,7 @@ is_radius : (said : List ReactionSaid) (line : Stated) (given : ℕ × Micro) �
 unfolding binding_radius_in
 is_radius said line given is =
     let words = held (length (words_of line) == 3) WrongWordCount [] _ given is in
-    let number = valued (number_in (names_of (reactions_of said)) (word_at line 1)) _ given words.1 in
+    let number = valued (number_in (reaction_names_of (reactions_of said)) (word_at line 1)) _ given words.1 in
     let reaction = valued (reaction_at (reactions_of said) number.0) _ given number.2 in
     let two = held (reaction.0.order == 2) BadReaction [] _ given reaction.2 in
     let radius = valued (distance_in (word_at line 2)) _ given two.1 in
@@ -314,7 +314,7 @@ is_chance : (said : List ReactionSaid) (line : Stated) (given : ℕ × ℕ) → 
 unfolding reaction_probability_in
 is_chance said line given is =
     let words = held (length (words_of line) == 3) WrongWordCount [] _ given is in
-    let number = valued (number_in (names_of (reactions_of said)) (word_at line 1)) _ given words.1 in
+    let number = valued (number_in (reaction_names_of (reactions_of said)) (word_at line 1)) _ given words.1 in
     let chance = valued (chance_in (word_at line 2)) _ given number.2 in
     subst (λ (given : ℕ × ℕ). IsChance said given.0 given.1) (same_value (number.0, chance.0) given chance.2)
     (record { below = number_behind said (word_at line 1) number.0 number.1; within = chance_in-within (word_at line 2) chance.0 chance.1 })
@@ -344,10 +344,10 @@ placed_in dims count species said line given is =
     let words = held (nat_le 3 (length (words_of line))) WrongWordCount [] _ given is in
     let wanted = valued (kind_in (word_at line 2)) _ given words.1 in
     let exact = held (length (words_of line) == words_for wanted.0 dims) WrongWordCount [] _ given wanted.2 in
-    let number = valued (number_in (names_of (reactions_of said)) (word_at line 1)) _ given exact.1 in
+    let number = valued (number_in (reaction_names_of (reactions_of said)) (word_at line 1)) _ given exact.1 in
     let reaction = valued (reaction_at (reactions_of said) number.0) _ given number.2 in
     let taken = held (takes (slice_index_or (kinds_of said) number.0 None) wanted.0) BadReaction [] _ given reaction.2 in
-    let placement = valued (placement_in wanted.0 dims species (species_made reaction.0.products) line) _ given taken.1 in
+    let placement = valued (placement_in wanted.0 dims species (product_species reaction.0.products) line) _ given taken.1 in
     subst (λ (given : ℕ × ProductPlacement). IsPlaced dims count said given.0 given.1) (same_value (number.0, placement.0) given placement.2)
     (record {
       below = number_behind said (word_at line 1) number.0 number.1;

@@ -5,7 +5,7 @@ use Rattle.smol_types.specs.Limits.{most_products}
 use Rattle.smol_reactions.specs.declared.product_placement.ProductPlacement.{ProductPlacement}
 use Rattle.smol_reactions.specs.declared.product_placement.ProductPlacement.TheVariants.{Offset, Unbind}
 use Rattle.smol_reactions.specs.Numbered.{changed}
-use Rattle.smol_reactions.specs.Reaction.{names_of, HasFewProducts}
+use Rattle.smol_reactions.specs.Reaction.{reaction_names_of, HasFewProducts}
 use Rattle.smol_reactions.specs.ReactionSaid.{ReactionSaid}
 use Rattle.smol_reactions.specs.Content.{schemes_of, reaction_made, reactions_of}
 use Rattle.smol_reactions.specs.Changes.{with_offset, with_placement}
@@ -17,7 +17,7 @@ pub record IsMild (change : Reaction → Reaction) : Type 0 where
   pub products : (reaction : Reaction) → HasFewProducts reaction → HasFewProducts (change reaction)
 
 pub record IsLike (old new : List Reaction) : Type 0 where
-  pub names : names_of new ≡ names_of old
+  pub names : reaction_names_of new ≡ reaction_names_of old
   pub count : length new ≡ length old
   pub products : All HasFewProducts new
 

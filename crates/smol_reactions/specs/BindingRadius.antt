@@ -10,7 +10,7 @@ use Rattle.smol_line.specs.Words.{word_at}
 use Rattle.smol_line.specs.Checks.{unless, there, word_count, passing, with_value}
 use Rattle.smol_line.specs.Numbers.{decimal_in}
 use Rattle.smol_line.specs.SpeciesWord.{number_in}
-use Rattle.smol_reactions.specs.Reaction.{names_of}
+use Rattle.smol_reactions.specs.Reaction.{reaction_names_of}
 
 -- the reaction of this number
 abbrev pub reaction_at : List Reaction → ℕ → Result Reaction Kind
@@ -24,7 +24,7 @@ distance_in word = decimal_in 6 (pos 0) (pos longest) word
 unfoldable pub binding_radius_in : List Reaction → Stated → Result (ℕ × Micro) Kind
 binding_radius_in reactions line =
     passing (word_count 3 line ∷ [])
-    (with_value (number_in (names_of reactions) (word_at line 1)) (λ number.
+    (with_value (number_in (reaction_names_of reactions) (word_at line 1)) (λ number.
     with_value (reaction_at reactions number) (λ reaction.
     passing (unless (reaction.order == 2) BadReaction ∷ [])
     (with_value (distance_in (word_at line 2)) (λ radius.

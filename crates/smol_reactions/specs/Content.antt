@@ -57,12 +57,12 @@ abbrev pub unbinding_said : ℕ → ReactionSaid → Option Placement
 unbinding_said number (places said placement) = of_reaction number said (unbinding placement)
 unbinding_said number other = None
 
-abbrev pub kind_of : ProductPlacement → PlacementKind
-kind_of (placement.Offset product offset) = kind.Offset
-kind_of (placement.Unbind distance) = kind.Unbindrad
+abbrev pub placement_kind_of : ProductPlacement → PlacementKind
+placement_kind_of (placement.Offset product offset) = kind.Offset
+placement_kind_of (placement.Unbind distance) = kind.Unbindrad
 
 abbrev pub kind_said : ℕ → ReactionSaid → Option PlacementKind
-kind_said number (places said placement) = of_reaction number said (Some (kind_of placement))
+kind_said number (places said placement) = of_reaction number said (Some (placement_kind_of placement))
 kind_said number other = None
 
 -- an offset of 0

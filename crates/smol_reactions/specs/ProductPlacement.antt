@@ -19,7 +19,7 @@ use Rattle.smol_reactions.specs.declared.product_placement.PlacementKind.{Placem
 use Rattle.smol_reactions.specs.declared.product_placement.PlacementKind.TheVariants as kind
 use Rattle.smol_reactions.specs.declared.product_placement.ProductPlacement.{ProductPlacement}
 use Rattle.smol_reactions.specs.declared.product_placement.ProductPlacement.TheVariants as placement
-use Rattle.smol_reactions.specs.Reaction.{names_of}
+use Rattle.smol_reactions.specs.Reaction.{reaction_names_of}
 use Rattle.smol_reactions.specs.BindingRadius.{reaction_at, distance_in}
 
 -- the kind of placement that a word names
@@ -43,8 +43,8 @@ takes (Some kind.Unbindrad) kind.Offset = false
 takes (Some kind.Unbindrad) kind.Unbindrad = true
 
 -- the species of products
-abbrev pub species_made : List Product → List ℕ
-species_made products = map (λ (product : Product). product.species) products
+abbrev pub product_species : List Product → List ℕ
+product_species products = map (λ (product : Product). product.species) products
 
 -- whether a word is `product_N`, N a count from 1, whose digits spell this
 abbrev pub counts_from_1 : Result ℕ NumFault → Bool
@@ -109,8 +109,8 @@ product_placement_in given species reactions kinds line =
     passing (unless (nat_le 3 (length (words_of line))) WrongWordCount ∷ [])
     (with_value (kind_in (word_at line 2)) (λ kind.
     passing (word_count (words_for kind dims) line ∷ [])
-    (with_value (number_in (names_of reactions) (word_at line 1)) (λ number.
+    (with_value (number_in (reaction_names_of reactions) (word_at line 1)) (λ number.
     with_value (reaction_at reactions number) (λ reaction.
     passing (unless (takes (slice_index_or kinds number None) kind) BadReaction ∷ [])
-    (with_value (placement_in kind dims species (species_made reaction.products) line) (λ placement.
+    (with_value (placement_in kind dims species (product_species reaction.products) line) (λ placement.
     Ok (number, placement)))))))))

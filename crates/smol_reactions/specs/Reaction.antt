@@ -13,8 +13,8 @@ use Rattle.smol_reactions.specs.declared.scheme.Scheme.{Scheme}
 use Rattle.smol_reactions.specs.Arrangement.{arrangement_in}
 
 -- the names of reactions
-abbrev pub names_of : List Reaction → List (List ℕ)
-names_of reactions = map (λ (reaction : Reaction). reaction.name) reactions
+abbrev pub reaction_names_of : List Reaction → List (List ℕ)
+reaction_names_of reactions = map (λ (reaction : Reaction). reaction.name) reactions
 
 -- a reaction has no more products than there may be
 abbrev pub HasFewProducts : Reaction → Type 0

@@ -3,7 +3,7 @@ use Rattle.std.specs.Prelude.{ℕ, List, Option, Result}
 use Rattle.smol_text.specs.Reading.{Stated}
 use Rattle.smol_types.specs.declared.fault.Kind.{Kind}
 use Rattle.smol_line.specs.LookingBack.{say}
-use Rattle.smol_reactions.specs.Reaction.{names_of, reaction_in}
+use Rattle.smol_reactions.specs.Reaction.{reaction_names_of, reaction_in}
 use Rattle.smol_reactions.specs.BindingRadius.{binding_radius_in}
 use Rattle.smol_reactions.specs.ReactionProbability.{reaction_probability_in}
 use Rattle.smol_reactions.specs.ProductPlacement.{product_placement_in}
@@ -12,7 +12,7 @@ use Rattle.smol_reactions.specs.Content.{reactions_of, kinds_of}
 
 -- what a `reaction` line says, beside species of these names
 abbrev pub reaction_said : List (List ℕ) → List ReactionSaid → Stated → Result ReactionSaid Kind
-reaction_said species before line = say reacts (reaction_in species (names_of (reactions_of before)) line)
+reaction_said species before line = say reacts (reaction_in species (reaction_names_of (reactions_of before)) line)
 
 -- what a `binding_radius` line says
 abbrev pub binding_radius_said : List ReactionSaid → Stated → Result ReactionSaid Kind

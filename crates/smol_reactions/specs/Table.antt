@@ -5,7 +5,7 @@ use Rattle.smol_types.specs.Limits.{most_reactions}
 use Rattle.smol_line.specs.declared.refusal.Refusal.{Refusal}
 use Rattle.smol_line.specs.LookingBack.{Reads as ReadsLine}
 use Rattle.smol_reactions.specs.declared.reactions.Reactions.{Reactions}
-use Rattle.smol_reactions.specs.Reaction.{names_of, HasFewProducts}
+use Rattle.smol_reactions.specs.Reaction.{reaction_names_of, HasFewProducts}
 use Rattle.smol_reactions.specs.ReactionSaid.{ReactionSaid}
 use Rattle.smol_reactions.specs.Content.{reactions_of, kinds_of, chances_of}
 use Rattle.smol_reactions.specs.Order.{AreOrdered}
@@ -19,7 +19,7 @@ pub record Holds (table : Reactions) (said : List ReactionSaid) : Type 0 where
 
 -- the parts of the table fit each other
 pub record IsKept (table : Reactions) : Type 0 where
-  pub names : table.names ≡ names_of table.list.items
+  pub names : table.names ≡ reaction_names_of table.list.items
   pub kinds : length table.kinds.items ≡ length table.list.items
   pub chances : length table.chances.items ≡ length table.list.items
   pub products : All HasFewProducts table.list.items

@@ -1,7 +1,7 @@
 //! `binding_radius REACTION V`: how far apart the two reactants of a reaction may be.
 ghost use Rattle.std.specs.Prelude.{◌≡◌, ◌≤◌, ◌<◌, length, Ok, IfOk};
 ghost use Rattle.smol_types.specs.Limits.{most_reactions};
-ghost use Rattle.smol_reactions.specs.Reaction.{names_of};
+ghost use Rattle.smol_reactions.specs.Reaction.{reaction_names_of};
 ghost use Rattle.smol_reactions.specs.BindingRadius.{binding_radius_in, distance_in};
 
 use smol_line::{NameSet, decimal_in, number_in, unless, word_at, word_count};
@@ -26,7 +26,7 @@ pub fn judge(
     reactions: &[Reaction],
     line: &StatedLine<'_>,
 ) -> Result<(u16, Micro), Kind>
-    requires names { names.now ≡ names_of reactions.now }
+    requires names { names.now ≡ reaction_names_of reactions.now }
     requires few { length reactions.now ≤ most_reactions }
     ensures rule { result ≡ binding_radius_in reactions.now line.now }
     ensures within { IfOk result (λ given. given.0 < length reactions.now) }

@@ -2,9 +2,9 @@
 ghost use Rattle.std.specs.Prelude.{◌≡◌, ◌==◌, ◌≤◌, ◌<◌, true, length, position, All, IfOk};
 ghost use Rattle.smol_types.specs.declared.reaction.Product.{Product as TheProduct};
 ghost use Rattle.smol_types.specs.Limits.{most_species, most_products, most_reactions};
-ghost use Rattle.smol_reactions.specs.Content.{kind_of};
-ghost use Rattle.smol_reactions.specs.Reaction.{names_of, HasFewProducts};
-ghost use Rattle.smol_reactions.specs.ProductPlacement.{counts_from_1, first_of_species, kind_in, numeral_of, offset_at, offset_in, placement_in, product_in, product_of, product_placement_in, species_made, takes, words_for};
+ghost use Rattle.smol_reactions.specs.Content.{placement_kind_of};
+ghost use Rattle.smol_reactions.specs.Reaction.{reaction_names_of, HasFewProducts};
+ghost use Rattle.smol_reactions.specs.ProductPlacement.{counts_from_1, first_of_species, kind_in, numeral_of, offset_at, offset_in, placement_in, product_in, product_of, product_placement_in, product_species, takes, words_for};
 
 use crate::binding_radius::distance_in;
 use smol_geom::Step3;
@@ -54,8 +54,8 @@ fn kind_in(word: &[u8]) -> Result<PlacementKind, Kind>
 }
 
 /// The kind of a placement.
-pub fn kind_of(placement: ProductPlacement) -> PlacementKind
-    ensures { result ≡ kind_of placement }
+pub fn placement_kind_of(placement: ProductPlacement) -> PlacementKind
+    ensures { result ≡ placement_kind_of placement }
 {
     match placement {
         ProductPlacement::Offset { .. } => PlacementKind::Offset,
@@ -131,7 +131,7 @@ fn place_of_species(products: &[Product], species: u16) -> Option<usize>
 // The first product of a species.
 fn first_of_species(products: &[Product], species: u16) -> Result<u16, Kind>
     requires few { length products.now ≤ most_products }
-    ensures value { result ≡ first_of_species (species_made products.now) species }
+    ensures value { result ≡ first_of_species (product_species products.now) species }
     ensures within { IfOk result (λ product. product < length products.now) }
 {
     match place_of_species(products, species) {
@@ -145,7 +145,7 @@ fn first_of_species(products: &[Product], species: u16) -> Result<u16, Kind>
 fn product_in(species: &NameSet, products: &[Product], word: &[u8]) -> Result<u16, Kind>
     requires species { length species.now ≤ most_species }
     requires few { length products.now ≤ most_products }
-    ensures value { result ≡ product_in species.now (species_made products.now) word.now }
+    ensures value { result ≡ product_in species.now (product_species products.now) word.now }
     ensures within { IfOk result (λ product. product < length products.now) }
 {
     let numeral = numeral_of(word);
@@ -189,7 +189,7 @@ fn placement_in(
 ) -> Result<ProductPlacement, Kind>
     requires species { length species.now ≤ most_species }
     requires few { length products.now ≤ most_products }
-    ensures value { result ≡ placement_in kind dims species.now (species_made products.now) line.now }
+    ensures value { result ≡ placement_in kind dims species.now (product_species products.now) line.now }
 {
     match kind {
         PlacementKind::Offset => {
@@ -217,7 +217,7 @@ pub fn judge(
     line: &StatedLine<'_>,
 ) -> Result<(u16, ProductPlacement), Kind>
     requires species { length species.now ≤ most_species }
-    requires names { names.now ≡ names_of reactions.now }
+    requires names { names.now ≡ reaction_names_of reactions.now }
     requires kinds { length kinds.now ≡ length reactions.now }
     requires few { length reactions.now ≤ most_reactions }
     requires products { All HasFewProducts reactions.now }

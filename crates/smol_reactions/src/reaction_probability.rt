@@ -2,7 +2,7 @@
 ghost use Rattle.std.specs.Prelude.{◌≡◌, ◌≤◌, ◌<◌, length, Ok, IfOk};
 ghost use Rattle.smol_types.specs.Limits.{most_reactions};
 ghost use Rattle.smol_line.specs.Probability.{threshold_of};
-ghost use Rattle.smol_reactions.specs.Reaction.{names_of};
+ghost use Rattle.smol_reactions.specs.Reaction.{reaction_names_of};
 ghost use Rattle.smol_reactions.specs.ReactionProbability.{reaction_probability_in};
 
 use smol_line::{NameSet, number_in, unsigned_in, word_at, word_count};
@@ -30,7 +30,7 @@ pub fn judge(
     reactions: &[Reaction],
     line: &StatedLine<'_>,
 ) -> Result<(u16, u32), Kind>
-    requires names { names.now ≡ names_of reactions.now }
+    requires names { names.now ≡ reaction_names_of reactions.now }
     requires few { length reactions.now ≤ most_reactions }
     ensures rule { result ≡ reaction_probability_in reactions.now line.now }
     ensures within { IfOk result (λ given. given.0 < length reactions.now) }

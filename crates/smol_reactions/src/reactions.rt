@@ -6,7 +6,7 @@ ghost use Rattle.smol_types.specs.Reactions.{reacts_alone};
 ghost use Rattle.smol_reactions.specs.Content.{are_shared, chance_alone, chance_sum, usual_threshold};
 ghost use Rattle.smol_reactions.specs.Changes.{fresh_product, fresh_reaction, with_chance, with_offset, with_placement, with_radius};
 
-use crate::product_placement::{PlacementKind, ProductPlacement, kind_of};
+use crate::product_placement::{PlacementKind, ProductPlacement, placement_kind_of};
 use crate::reaction_probability::threshold_of;
 use crate::scheme::Scheme;
 use crate::{binding_radius, product_placement, reaction, reaction_probability};
@@ -298,7 +298,7 @@ impl Reactions {
         )?;
         let number = usize::from(number);
         set_placement(alloc, &mut self.list, number, placement);
-        set_kind(&mut self.kinds, number, kind_of(placement));
+        set_kind(&mut self.kinds, number, placement_kind_of(placement));
         Ok(())
     }
 

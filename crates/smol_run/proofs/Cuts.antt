@@ -15,7 +15,7 @@ use Rattle.smol_run.specs.declared.status.Status.TheVariants as status
 use Rattle.smol_run.specs.declared.stop.Stop.{Stop}
 use Rattle.smol_run.specs.Outcome.{Outcome, error_line, no_place_line, outcome_of_ending, outcome_of_run, over_line}
 use Rattle.smol_run.specs.Opening.{OpensAll, OpensFront}
-use Rattle.smol_run.specs.Ends.{EndsAs, EndsAsSome, GoesWith, GoesWithSome, IsCutOff, IsFrontOf}
+use Rattle.smol_run.specs.Ends.{EndsWith, EndsWithSome, GoesWith, GoesWithSome, IsCutOff, IsFrontOf}
 use Rattle.smol_run.proofs.Openings.{none_opened}
 
 -- nothing was done yet
@@ -55,7 +55,7 @@ cut_in_writing outcome names a b c are opened front = record {
 
 -- all names were opened, and then all pieces were written
 pub ended_as : (outcome : Outcome) (status : Status) (a b c : Written) → outcome.status ≡ status → OpensAll outcome.names a b
-    → Appends outcome.pieces b c → EndsAs outcome status a c
+    → Appends outcome.pieces b c → EndsWith outcome status a c
 ended_as outcome status a b c is opened wrote = record {
   status_is = is;
   names = wrote.names ∙ opened.names_are;
@@ -91,11 +91,11 @@ run_cut_off names run a b c opened front =
 
 -- a run that came to its end
 pub run_ended : (names : List (List ℕ)) (run : Result Stretch NoPlace) (a b c : Written) → IsOkAnd run (λ (stretch : Stretch). IsComplete stretch.ending)
-    → OpensAll names a b → Appends (pieces_of run) b c → EndsAs (outcome_of_run names run) status.Done a c
+    → OpensAll names a b → Appends (pieces_of run) b c → EndsWith (outcome_of_run names run) status.Done a c
 run_ended names (Err none) a b c complete opened wrote = absurd complete
 run_ended names (Ok stretch) a b c complete opened wrote = ending_ended stretch.pieces stretch.ending complete wrote
   where
-    ending_ended : (pieces : List Piece) (ending : Ending) → IsComplete ending → Appends pieces b c → EndsAs (outcome_of_ending names pieces ending) status.Done a c
+    ending_ended : (pieces : List Piece) (ending : Ending) → IsComplete ending → Appends pieces b c → EndsWith (outcome_of_ending names pieces ending) status.Done a c
     ending_ended pieces GoesOn complete wrote = ended_as (outcome_of_ending names pieces GoesOn) status.Done a b c refl opened wrote
     ending_ended pieces Stopped complete wrote = ended_as (outcome_of_ending names pieces Stopped) status.Done a b c refl opened wrote
     ending_ended pieces (Over step) complete wrote = absurd complete
@@ -103,7 +103,7 @@ run_ended names (Ok stretch) a b c complete opened wrote = ending_ended stretch.
 -- a run that has no beginning, which was told
 pub no_place_told : (names : List (List ℕ)) (run : Result Stretch NoPlace) (line serial : ℕ) (a b c d : Written)
     → run ≡ Err (record { line = line; serial = serial }) → OpensAll names a b → Appends [] b c → Appends (error_line (no_place_line line serial)) c d
-    → EndsAs (outcome_of_run names run) status.Refused a d
+    → EndsWith (outcome_of_run names run) status.Refused a d
 no_place_told names run line serial a b c d is opened none told =
     rw is (ended_as (outcome_of_run names (Err (record { line = line; serial = serial }))) status.Refused a b d refl opened (Appends-then [] _ b c d none told))
 
@@ -116,7 +116,7 @@ no_place_cut_off names run line serial a b c d is opened none told =
 
 -- a run that is over, which was told
 pub over_told : (names : List (List ℕ)) (run : Result Stretch NoPlace) (step : ℕ) (a b c d : Written) → IsOkAnd run (λ (stretch : Stretch). stretch.ending ≡ Over step)
-    → OpensAll names a b → Appends (pieces_of run) b c → Appends (error_line (over_line step)) c d → EndsAs (outcome_of_run names run) status.Over a d
+    → OpensAll names a b → Appends (pieces_of run) b c → Appends (error_line (over_line step)) c d → EndsWith (outcome_of_run names run) status.Over a d
 over_told names (Err none) step a b c d is opened wrote told = absurd is
 over_told names (Ok stretch) step a b c d is opened wrote told =
     rw is (ended_as (outcome_of_ending names stretch.pieces (Over step)) status.Over a b d refl opened (Appends-then stretch.pieces (error_line (over_line step)) b c d wrote told))
@@ -151,7 +151,7 @@ told_after P Q R S a b c d join first second third =
     (Tells-then a b c P Q (λ x z. (y : Written) × (P x y × Q y z)) (λ x y z p q. (y, (p, q))) first second) third
 
 -- all that an outcome says is a front of it
-pub whole_is_front : (outcome : Outcome) (status : Status) (a b : Written) → EndsAs outcome status a b → IsCutOff outcome a b
+pub whole_is_front : (outcome : Outcome) (status : Status) (a b : Written) → EndsWith outcome status a b → IsCutOff outcome a b
 whole_is_front outcome status a b ends = record {
   name_count = length outcome.names;
   byte_count = byte_count outcome.pieces;
@@ -177,10 +177,10 @@ front_told outcome result (Some x) w v goes =
 
 -- a status of its own that goes with an outcome ends as it says
 pub ends_told : (outcome : Reading → Option Outcome) (status : Status) (a : Option Reading) (w v : Option Written)
-    → IfSome a (λ reading. Tells w v (GoesWithSome {E = Stop} (outcome reading) (Ok status))) → IfSome a (λ reading. Tells w v (EndsAsSome (outcome reading) status))
+    → IfSome a (λ reading. Tells w v (GoesWithSome {E = Stop} (outcome reading) (Ok status))) → IfSome a (λ reading. Tells w v (EndsWithSome (outcome reading) status))
 ends_told outcome status None w v goes = tt
-ends_told outcome status (Some x) w v goes = Tells-weaker w v _ (EndsAsSome (outcome x) status) (λ y z ends. as_some (outcome x) y z ends) goes
+ends_told outcome status (Some x) w v goes = Tells-weaker w v _ (EndsWithSome (outcome x) status) (λ y z ends. as_some (outcome x) y z ends) goes
   where
-    as_some : (outcome : Option Outcome) (a b : Written) → GoesWithSome {E = Stop} outcome (Ok status) a b → EndsAsSome outcome status a b
+    as_some : (outcome : Option Outcome) (a b : Written) → GoesWithSome {E = Stop} outcome (Ok status) a b → EndsWithSome outcome status a b
     as_some None a b goes = goes
     as_some (Some outcome) a b goes = goes

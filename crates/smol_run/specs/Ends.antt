@@ -17,7 +17,7 @@ stop_of loss.Output = stop.Output
 stop_of loss.Memory = stop.Memory
 
 -- a call ended as the outcome says: with its status, its names were opened in order, and each outlet was appended exactly its bytes
-pub record EndsAs (outcome : Outcome) (status : Status) (before after : Written) : Type 0 where
+pub record EndsWith (outcome : Outcome) (status : Status) (before after : Written) : Type 0 where
   pub status_is : outcome.status ≡ status
   pub names : after.names ≡ before.names ++ outcome.names
   pub bytes : (outlet : ℕ) → after.bytes outlet ≡ before.bytes outlet ++ bytes_on outlet outcome.pieces
@@ -33,7 +33,7 @@ pub record IsCutOff (outcome : Outcome) (before after : Written) : Type 0 where
 
 -- an answer goes with the outcome: a status is its own, and any other answer cut the call off
 abbrev pub GoesWith : {E : Type 0} → Outcome → Result Status E → Written → Written → Type 0
-GoesWith outcome (Ok status) = EndsAs outcome status
+GoesWith outcome (Ok status) = EndsWith outcome status
 GoesWith outcome (Err why) = IsCutOff outcome
 
 -- the same where there may be no outcome: then there is no status, and nothing was opened or written
@@ -53,9 +53,9 @@ IsDefinite Memory = ⊥
 IsDefinite Over = Unit {0}
 
 -- there is an outcome, and the call ended as it says
-abbrev pub EndsAsSome : Option Outcome → Status → Written → Written → Type 0
-EndsAsSome None status before after = ⊥
-EndsAsSome (Some outcome) status before after = EndsAs outcome status before after
+abbrev pub EndsWithSome : Option Outcome → Status → Written → Written → Type 0
+EndsWithSome None status before after = ⊥
+EndsWithSome (Some outcome) status before after = EndsWith outcome status before after
 
 -- what was opened and written is a front of the outcome, and nothing where there is none
 abbrev pub IsFrontOf : Option Outcome → Written → Written → Type 0

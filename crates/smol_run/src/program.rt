@@ -3,7 +3,7 @@ ghost use Rattle.std.specs.Prelude.{◌≡◌, ◌≢◌, ◌≤◌, None, map, 
 ghost use Rattle.smol_edge.specs.Faults.{Rose, Tells};
 ghost use Rattle.smol_run.specs.Words.{job_of};
 ghost use Rattle.smol_run.specs.Asked.{AsksForJob, AsksOnce};
-ghost use Rattle.smol_run.specs.Ends.{CountsLoss, CountsReads, CountsWrites, EndsAsSome, FitsWords, GoesWith, GoesWithSome, IsDefinite, IsFrontOf, IsLost, IsMisuse, IsRun, IsUnread};
+ghost use Rattle.smol_run.specs.Ends.{CountsLoss, CountsReads, CountsWrites, EndsWithSome, FitsWords, GoesWith, GoesWithSome, IsDefinite, IsFrontOf, IsLost, IsMisuse, IsRun, IsUnread};
 ghost use Rattle.smol_run.specs.Ways.{JobGoesSafely};
 ghost use Rattle.smol_run.specs.Outcome.{outcome_of, outcome_of_file, outcome_of_text, refused, seed_of};
 
@@ -40,7 +40,7 @@ pub fn run_program<R: Threads + Sync, S: Source, K: Outlets, G: Gate + Sync>(
     // With a definite status the run ended as it is defined to, with every byte, whether or not a count rose.
     ensures outcome { IsDefinite result → IfSome (S.told source.old) (λ reading.
         Tells (K.told outlets.old) (K.told outlets.new)
-        (EndsAsSome (outcome_of (map (λ word. string_bytes word) words.now) reading.contents) result)) }
+        (EndsWithSome (outcome_of (map (λ word. string_bytes word) words.now) reading.contents) result)) }
 
     // Whatever the status is, what was opened and written is a front of that.
     ensures front { IfSome (S.told source.old) (λ reading.

@@ -6,7 +6,7 @@ ghost use Rattle.smol_geom.specs.Moments.{IsMoment, is_before};
 ghost use Rattle.smol_types.specs.declared.wall.Wall.{Wall};
 ghost use Rattle.smol_meaning.specs.Folds.{IsPanelRect, IsWallPlane, IsSmallFold};
 ghost use Rattle.smol_meaning.specs.Plates.{Rectangle, is_met, plane_at};
-ghost use Rattle.smol_travel.specs.Meetings.{IsLater, IsNext, earlier_of, earliest_of, rect_sheets, wall_sheet, wall_sheets, sheets_of};
+ghost use Rattle.smol_travel.specs.Meetings.{ComesLater, IsNext, sooner_of, earliest_of, rect_sheets, wall_sheet, wall_sheets, sheets_of};
 
 use crate::Panels;
 use crate::coordinates::{coordinate_from, folded, ticks_to, unfolded};
@@ -91,7 +91,7 @@ fn next_of_walls(
 
 // The earlier of two moments.
 fn earlier(one: Option<Moment>, other: Moment) -> Moment
-    ensures { result ≡ earlier_of one other }
+    ensures { result ≡ sooner_of one other }
 {
     match one {
         Some(moment) => {
@@ -128,8 +128,8 @@ fn rect_meeting(rect: &Rect, from: &Place, by: &Step3, fold: &Fold, last: &Momen
     requires from { IsWithin (2 ^ 57) from.now.0 }
     requires by { IsWithin (2 ^ 34) by.now.0 }
     requires fold { IsSmallFold fold.now }
-    ensures later { IfSome result (λ m. IsLater from.now by.now last.now m) }
-    ensures only { (m : Moment) → IsLater from.now by.now last.now m →
+    ensures later { IfSome result (λ m. ComesLater from.now by.now last.now m) }
+    ensures only { (m : Moment) → ComesLater from.now by.now last.now m →
         is_met from.now by.now fold.now m (Rectangle rect.now) ≡ true → result ≡ Some m }
 {
     let moment = moment_at(rect.axis, rect.low[rect.axis as usize], from, by, fold)?;
@@ -146,8 +146,8 @@ fn wall_meeting(wall: &Wall, from: &Place, by: &Step3, fold: &Fold, last: &Momen
     requires from { IsWithin (2 ^ 57) from.now.0 }
     requires by { IsWithin (2 ^ 34) by.now.0 }
     requires fold { IsSmallFold fold.now }
-    ensures later { IfSome result (λ m. IsLater from.now by.now last.now m) }
-    ensures only { (m : Moment) → IsLater from.now by.now last.now m →
+    ensures later { IfSome result (λ m. ComesLater from.now by.now last.now m) }
+    ensures only { (m : Moment) → ComesLater from.now by.now last.now m →
         is_met from.now by.now fold.now m (wall_sheet wall.now) ≡ true → result ≡ Some m }
 {
     let moment = moment_at(wall.axis, wall.plane, from, by, fold)?;

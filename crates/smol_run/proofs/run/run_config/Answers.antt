@@ -4,7 +4,7 @@ use Rattle.smol_edge.proofs.Telling.{Tells-then, Tells-weaker}
 use Rattle.smol_edge.proofs.PieceFronts.{AppendsFrontOf-all, AppendsFrontOf-nothing}
 use Rattle.smol_meaning.specs.Run.{run_of}
 use Rattle.smol_loop.specs.Simulation.{pieces_of}
-use Rattle.smol_run.specs.Ends.{EndsAs, IsCutOff}
+use Rattle.smol_run.specs.Ends.{EndsWith, IsCutOff}
 use Rattle.smol_run.specs.Opening.{OpensAll, OpensFront}
 use Rattle.smol_run.specs.Outcome.{error_line, no_place_line, outcome_of_run, over_line}
 use Rattle.smol_run.specs.declared.status.Status.TheVariants as status
@@ -24,7 +24,7 @@ pub returns-in-Ok-clause-ended : goal.returns-in-Ok-clause-ended
 returns-in-Ok-clause-ended g c =
     let names = c.args.config.now.outputs in
     let run = run_of c.args.config.now c.args.seed in
-    Tells-then _ _ _ (OpensAll names) (Appends (pieces_of run)) (EndsAs (outcome_of_run names run) status.Done)
+    Tells-then _ _ _ (OpensAll names) (Appends (pieces_of run)) (EndsWith (outcome_of_run names run) status.Done)
     (λ x y z opened wrote. run_ended names run x y z c.in-Ok.ensures.ended opened wrote)
     (rw c.outputs.ensures.value at c.in_ok-open_all.ensures.opened) c.in-Ok.ensures.printed
 
@@ -76,7 +76,7 @@ returns-in_ok-tell-in-Err-NoPlace-clause-ended g c =
     let run = run_of c.args.config.now c.args.seed in
     let line = c.in-Err-NoPlace.line in
     let serial = c.in-Err-NoPlace.serial in
-    told_after (OpensAll names) (Appends []) (Appends (error_line (no_place_line line serial))) (EndsAs (outcome_of_run names run) status.Refused) _ _ _ _
+    told_after (OpensAll names) (Appends []) (Appends (error_line (no_place_line line serial))) (EndsWith (outcome_of_run names run) status.Refused) _ _ _ _
     (λ x y z w opened none told. no_place_told names run line serial x y z w (rw c.in-Err-NoPlace.field-0-is at c.in-Err-NoPlace.ensures.ended) opened none told)
     (rw c.outputs.ensures.value at c.in_ok-open_all.ensures.opened)
     (rw c.in-Err-NoPlace.field-0-is at c.in-Err-NoPlace.ensures.printed)
@@ -110,7 +110,7 @@ returns-in_ok-tell-in-Err-TooManyMolecules-clause-ended g c =
     let names = c.args.config.now.outputs in
     let run = run_of c.args.config.now c.args.seed in
     let step = c.in-Err-TooManyMolecules.step in
-    told_after (OpensAll names) (Appends (pieces_of run)) (Appends (error_line (over_line step))) (EndsAs (outcome_of_run names run) status.Over) _ _ _ _
+    told_after (OpensAll names) (Appends (pieces_of run)) (Appends (error_line (over_line step))) (EndsWith (outcome_of_run names run) status.Over) _ _ _ _
     (λ x y z w opened wrote told. over_told names run step x y z w (rw c.in-Err-TooManyMolecules.field-0-is at c.in-Err-TooManyMolecules.ensures.ended) opened wrote told)
     (rw c.outputs.ensures.value at c.in_ok-open_all.ensures.opened)
     (rw c.in-Err-TooManyMolecules.field-0-is at c.in-Err-TooManyMolecules.ensures.printed)

@@ -18,7 +18,7 @@ returns-clause-kept c =
     let like = alike (with_placement placement) c.from-number.result c.args.self.now.list.items c.set_placement.new.list.items (placed_mild placement) c.set_placement.ensures old.products in
     record {
       names = old.names ∙ sym like.names;
-      kinds = ap length c.set_kind.ensures ∙ length-changed (λ _. Some c.kind_of.result) c.from-number.result c.args.self.now.kinds.items ∙ old.kinds ∙ sym like.count;
+      kinds = ap length c.set_kind.ensures ∙ length-changed (λ _. Some c.placement_kind_of.result) c.from-number.result c.args.self.now.kinds.items ∙ old.kinds ∙ sym like.count;
       chances = old.chances ∙ sym like.count;
       products = like.products;
       few = subst (λ (n : ℕ). n ≤ most_reactions) (sym like.count) old.few;
@@ -32,9 +32,9 @@ returns-clause-reads c said holds =
     let kinds = c.as_slice-2.ensures.value ∙ holds.kinds in
     let is = c.set_placement.ensures ∙ ap (changed (with_placement placement) c.from-number.result) holds.list ∙ ap (λ (n : ℕ). changed (with_placement placement) n (reactions_of said)) c.from-number.ensures in
     let kind = c.set_kind.ensures
-    ∙ ap (changed (λ _. Some c.kind_of.result) c.from-number.result) holds.kinds
-    ∙ ap (λ (n : ℕ). changed (λ _. Some c.kind_of.result) n (kinds_of said)) c.from-number.ensures
-    ∙ ap (λ kind. changed (λ _. Some kind) number (kinds_of said)) c.kind_of.ensures in
+    ∙ ap (changed (λ _. Some c.placement_kind_of.result) c.from-number.result) holds.kinds
+    ∙ ap (λ (n : ℕ). changed (λ _. Some c.placement_kind_of.result) n (kinds_of said)) c.from-number.ensures
+    ∙ ap (λ kind. changed (λ _. Some kind) number (kinds_of said)) c.placement_kind_of.ensures in
     let rule =
     ap (λ reactions. product_placement_in c.args.dims c.args.species.now reactions (kinds_of said) c.args.line.now) (sym list)
     ∙ ap (λ kinds. product_placement_in c.args.dims c.args.species.now c.as_slice.result.now kinds c.args.line.now) (sym kinds)

@@ -1,6 +1,6 @@
 use Rattle.std.proofs.Common.{◌++◌, [], ◌∷◌, None, sym, ap, ◌∙◌}
 use Rattle.smol_line.specs.LookingBack.{say}
-use Rattle.smol_reactions.specs.Reaction.{names_of, reaction_in}
+use Rattle.smol_reactions.specs.Reaction.{reaction_names_of, reaction_in}
 use Rattle.smol_reactions.specs.ReactionSaid.{reacts}
 use Rattle.smol_reactions.specs.Changes.{fresh_reaction}
 use Rattle.smol_reactions.proofs.MoreSaid.{reaction_more, kind_none, chance_none}
@@ -9,7 +9,7 @@ use Rattle.smol_reactions.proofs.reactions.Reactions.read_reaction.Goals as goal
 pub returns-clause-reads : goal.returns-clause-reads
 returns-clause-reads c said holds =
     let scheme = c.in_ok-scheme.scheme in
-    let names = c.requires.kept.names ∙ ap names_of holds.list in (
+    let names = c.requires.kept.names ∙ ap reaction_names_of holds.list in (
       reacts scheme,
       ap (say reacts) (ap (λ known. reaction_in c.args.species.now known c.args.line.now) (sym names) ∙ c.in_ok-scheme.ensures.rule),
       record {
