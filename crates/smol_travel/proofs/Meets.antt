@@ -1,7 +1,6 @@
 -- What a look at axis and plane says of a meeting.
-use Rattle.std.proofs.Common.{◌≡◌, ℕ, ◌↔◌, Bool, true, false, IsTrue, ◌==◌, refl, sym, ◌∙◌, ap, subst, arith, ℤ, ◌≤ℤ◌}
-use Rattle.std.proofs.lemmas.Bool.{and_from, both_ways, eq-eqb, false_from_ne_true}
-use Rattle.std.proofs.lemmas.Int.{ints}
+use Rattle.std.proofs.Common.{◌≡◌, ℕ, ◌↔◌, Bool, true, false, IsTrue, refl, sym, ◌∙◌, ℤ}
+use Rattle.std.proofs.lemmas.Bool.{both_ways, eq-eqb, false_from_ne_true}
 use Rattle.smol_geom.specs.declared.place.Place.{Place}
 use Rattle.smol_geom.specs.declared.place.Step3.{Step3}
 use Rattle.smol_geom.specs.declared.moment.Moment.{Moment}
@@ -12,7 +11,7 @@ use Rattle.smol_geom.specs.Fold.{IsSign, true_point}
 use Rattle.smol_geom.specs.Moment.{part_of}
 use Rattle.smol_geom.specs.Moments.{IsMoment}
 use Rattle.smol_geom.specs.Rect.{HoldsPoint, IsRect}
-use Rattle.smol_meaning.specs.Plates.{Rectangle, Plane, is_met, is_between, plane_at}
+use Rattle.smol_meaning.specs.Plates.{Rectangle, Plane, is_met, plane_at}
 use Rattle.smol_meaning.proofs.Planes.{met_plane, plane_met}
 use Rattle.smol_travel.proofs.Scan.{holds_agrees}
 

@@ -1,5 +1,5 @@
 -- The scan of the panels and walls for the next meeting.
-use Rattle.std.proofs.Common.{⊎_elim, ◌≡◌, ℕ, zero, suc, ◌+◌, ◌*◌, ◌<◌, ◌≤◌, ◌↔◌, Bool, true, false, IsTrue, ◌⊎◌, inl, inr, List, [], ◌∷◌, ◌++◌, length, get_or, take, drop, Option, Some, None, refl, sym, ◌∙◌, ap, subst, arith, ℤ, pos, ◌*ℤ◌, ◌<ℤ◌}
+use Rattle.std.proofs.Common.{⊎_elim, ◌≡◌, ℕ, ◌+◌, ◌*◌, ◌<◌, ◌≤◌, ◌↔◌, Bool, true, false, IsTrue, ◌⊎◌, inl, inr, List, ◌++◌, length, get_or, take, Option, Some, None, refl, sym, ◌∙◌, ap, subst, arith, pos}
 use Rattle.std.specs.List.{All}
 use Rattle.std.proofs.lemmas.Bool.{cond_both, both_ways, false_from_ne_true, cases_order}
 use Rattle.std.proofs.lemmas.Int.{ints}
@@ -17,7 +17,7 @@ use Rattle.smol_geom.specs.Rect.{HoldsPoint}
 use Rattle.smol_geom.proofs.Order.{Before, before_is, is_before_from, before_trans, before_either, not_before_itself}
 use Rattle.smol_meaning.specs.Plates.{Sheet, is_in_rect, is_met}
 use Rattle.smol_meaning.proofs.Responses.{holds_from, holds_is}
-use Rattle.smol_travel.specs.Meetings.{NoneMet, IsLater, NothingBefore, NothingLeft, IsNext, earlier_of, earliest_of}
+use Rattle.smol_travel.specs.Meetings.{NoneMet, ComesLater, NothingBefore, IsNext, sooner_of, earliest_of}
 
 -- what the code's comparison says
 pub before_agrees : (a b : Moment) (t : Bool) → (IsTrue t ↔ IsBefore a b) → t ≡ is_before a b
@@ -53,7 +53,7 @@ module _ (sheets : List Sheet) (from : Place) (by : Step3) (f : Fold) (last : Mo
 
   -- a sheet that is met no more changes nothing
   pub next_same : (next : Option Moment) → IsNext (take i sheets) from by f last next
-      → ((m : Moment) → IsLater from by last m → is_met from by f m sheet ≡ true → ⊥)
+      → ((m : Moment) → ComesLater from by last m → is_met from by f m sheet ≡ true → ⊥)
       → IsNext (take (i + 1) sheets) from by f last next
   next_same None old never =
       record { none = λ m h. one_more m (old.none m h) (false_from_ne_true _ (never m h)) }
@@ -63,14 +63,14 @@ module _ (sheets : List Sheet) (from : Place) (by : Step3) (f : Fold) (last : Mo
         none_before = λ m h b. one_more m (old.none_before m h b) (false_from_ne_true _ (never m h));
       }
 
-  den_of : (m : Moment) → IsLater from by last m → 0 < m.den
+  den_of : (m : Moment) → ComesLater from by last m → 0 < m.den
   den_of m h = omega (arith, h.moment.begun, h.moment.unfinished)
 
   -- one that is met at a moment makes this the next one, where it comes before the next one so far
   pub next_met : (next : Option Moment) (met : Moment) → IsNext (take i sheets) from by f last next
-      → IsLater from by last met
-      → ((m : Moment) → IsLater from by last m → is_met from by f m sheet ≡ true → ◌≡◌ {A = Moment} met m)
-      → NothingBefore (take (i + 1) sheets) from by f last (earlier_of next met)
+      → ComesLater from by last met
+      → ((m : Moment) → ComesLater from by last m → is_met from by f m sheet ≡ true → ◌≡◌ {A = Moment} met m)
+      → NothingBefore (take (i + 1) sheets) from by f last (sooner_of next met)
   next_met None met old later only =
       record {
         is_later = later;
@@ -92,14 +92,14 @@ module _ (sheets : List Sheet) (from : Place) (by : Step3) (f : Fold) (last : Mo
 
 -- the scans of two lists of sheets, put together
 module _ (a b : List Sheet) (from : Place) (by : Step3) (f : Fold) (last : Moment) where
-  den_above : (m : Moment) → IsLater from by last m → 0 < m.den
+  den_above : (m : Moment) → ComesLater from by last m → 0 < m.den
   den_above m h = omega (arith, h.moment.begun, h.moment.unfinished)
 
   both : (m : Moment) → NoneMet a from by f m → NoneMet b from by f m → NoneMet (a ++ b) from by f m
   both m one other = All-append (λ sheet. is_met from by f m sheet ≡ false) a b one other
 
   -- two moments of one axis at one part of the move are one
-  same_moment : (x y : Moment) → IsLater from by last x → IsLater from by last y → x.num * y.den ≡ y.num * x.den → x.axis ≡ y.axis → x ≡ y
+  same_moment : (x y : Moment) → ComesLater from by last x → ComesLater from by last y → x.num * y.den ≡ y.num * x.den → x.axis ≡ y.axis → x ≡ y
   same_moment x y hx hy part axis = λ i. record { num = nums i; den = dens i; axis = axis i }
     where
       dens : x.den ≡ y.den
@@ -118,7 +118,7 @@ module _ (a b : List Sheet) (from : Place) (by : Step3) (f : Fold) (last : Momen
           (cases_order x.num y.num)
 
   -- what comes before a moment comes before each that the moment isn't after
-  before_later : (m x y : Moment) → IsLater from by last m → IsLater from by last x → IsLater from by last y → is_before m x ≡ true → is_before y x ≡ false → is_before m y ≡ true
+  before_later : (m x y : Moment) → ComesLater from by last m → ComesLater from by last x → ComesLater from by last y → is_before m x ≡ true → is_before y x ≡ false → is_before m y ≡ true
   before_later m x y hm hx hy first second = ⊎_elim
       (λ (l : is_before x y ≡ true). before_trans m x y (den_above m hm) (den_above x hx) (den_above y hy) first l)
       (λ h. ⊎_elim

@@ -1,5 +1,5 @@
 -- The walk from one meeting to the next keeps what is left of the way.
-use Rattle.std.proofs.Common.{◌≡◌, ℕ, zero, suc, ◌+◌, ◌*◌, ◌<◌, Bool, true, false, List, [], ◌∷◌, ◌++◌, length, refl, sym, ◌∙◌, ap, subst, arith}
+use Rattle.std.proofs.Common.{◌≡◌, ℕ, suc, ◌+◌, ◌*◌, ◌<◌, Bool, false, List, [], ◌∷◌, ◌++◌, length, refl, sym, ◌∙◌, ap, subst, arith}
 use Rattle.std.specs.Prelude.{map}
 use Rattle.std.specs.List.{enumerate_from}
 use Rattle.std.proofs.lemmas.Bool.{or_left, lt-ltb}
@@ -20,7 +20,7 @@ use Rattle.smol_meaning.specs.Plates.{Plate, Sheet, Rectangle, is_met, responses
 use Rattle.smol_meaning.specs.Seen.{panel_plate, wall_plate, plates_of}
 use Rattle.smol_meaning.specs.Way.{after_moment, after_moments}
 use Rattle.smol_meaning.proofs.Skips.{filter_all, filter_rises, filter_shorter, has_filtered, filtered_has, after_after, keeps_free, skip_all, skip_to}
-use Rattle.smol_travel.specs.Meetings.{NoneMet, IsLater, NothingBefore, NothingLeft, rect_sheets, wall_sheet, wall_sheets, sheets_of}
+use Rattle.smol_travel.specs.Meetings.{NoneMet, ComesLater, NothingBefore, NothingLeft, rect_sheets, wall_sheet, wall_sheets, sheets_of}
 
 -- where no sheet is met, no plate responds
 none_responds : (plates : List Plate) (from : Place) (by : Step3) (f : Fold) (m : Moment) → NoneMet (map (λ (plate : Plate). plate.sheet) plates) from by f m → responses_met plates from by f m ≡ []
@@ -59,15 +59,15 @@ after_beginning from by =
 
 module _ (sheets : List Sheet) (plates : List Plate) (from : Place) (by : Step3) (f : Fold) (last : Moment)
     (free : (m : Moment) → NoneMet sheets from by f m → responses_met plates from by f m ≡ []) where
-  later_of : (m : Moment) → Has (moments_after last (moments from by)) m → IsLater from by last m
+  later_of : (m : Moment) → Has (moments_after last (moments from by)) m → ComesLater from by last m
   later_of m h =
       let r = has_filtered (is_before last) (moments from by) m h in
       record { moment = of_move from by m r.0; later = r.1 }
 
-  pub has_later : (m : Moment) → IsLater from by last m → Has (moments_after last (moments from by)) m
+  pub has_later : (m : Moment) → ComesLater from by last m → Has (moments_after last (moments from by)) m
   has_later m h = filtered_has (is_before last) (moments from by) m (all_of_move from by m h.moment) h.later
 
-  den_of : (m : Moment) → IsLater from by last m → 0 < m.den
+  den_of : (m : Moment) → ComesLater from by last m → 0 < m.den
   den_of m h = omega (arith, h.moment.begun, h.moment.unfinished)
 
   -- the way goes on from the next meeting with the moments after it
@@ -81,7 +81,7 @@ module _ (sheets : List Sheet) (plates : List Plate) (from : Place) (by : Step3)
       (after_after last next (moments from by) h.is_later.later positive (den_of next h.is_later) (parts from by))
 
   -- fewer moments are left then
-  pub fewer_left : 0 < last.den → (next : Moment) → IsLater from by last next → length (moments_after next (moments from by)) < length (moments_after last (moments from by))
+  pub fewer_left : 0 < last.den → (next : Moment) → ComesLater from by last next → length (moments_after next (moments from by)) < length (moments_after last (moments from by))
   fewer_left positive next h =
       subst (λ ms. length ms < length (moments_after last (moments from by)))
       (after_after last next (moments from by) h.later positive (den_of next h) (parts from by))

@@ -39,18 +39,18 @@ abbrev pub NoneMet : List Sheet → Place → Step3 → Fold → Moment → Type
 NoneMet sheets from by f m = All (λ sheet. is_met from by f m sheet ≡ false) sheets
 
 -- a moment of the move that comes after the last one
-pub record IsLater (from : Place) (by : Step3) (last m : Moment) : Type 0 where
+pub record ComesLater (from : Place) (by : Step3) (last m : Moment) : Type 0 where
   pub moment : IsMoment from by m
   pub later : is_before last m ≡ true
 
 -- no sheet is met after the last moment and before the next one
 pub record NothingBefore (sheets : List Sheet) (from : Place) (by : Step3) (f : Fold) (last next : Moment) : Type 0 where
-  pub is_later : IsLater from by last next
-  pub none_before : (m : Moment) → IsLater from by last m → is_before m next ≡ true → NoneMet sheets from by f m
+  pub is_later : ComesLater from by last next
+  pub none_before : (m : Moment) → ComesLater from by last m → is_before m next ≡ true → NoneMet sheets from by f m
 
 -- no sheet is met after the last moment
 pub record NothingLeft (sheets : List Sheet) (from : Place) (by : Step3) (f : Fold) (last : Moment) : Type 0 where
-  pub none : (m : Moment) → IsLater from by last m → NoneMet sheets from by f m
+  pub none : (m : Moment) → ComesLater from by last m → NoneMet sheets from by f m
 
 -- the moment before which no sheet is met; there is none where none is met any more
 abbrev pub IsNext : List Sheet → Place → Step3 → Fold → Moment → Option Moment → Type 0
@@ -58,14 +58,14 @@ IsNext sheets from by f last next =
     MatchOption next (NothingLeft sheets from by f last) (λ m. NothingBefore sheets from by f last m)
 
 -- the earlier of a moment, where there is one, and another
-abbrev pub earlier_of : Option Moment → Moment → Moment
-earlier_of None m = m
-earlier_of (Some n) m = if is_before m n then m else n
+abbrev pub sooner_of : Option Moment → Moment → Moment
+sooner_of None m = m
+sooner_of (Some n) m = if is_before m n then m else n
 
 -- the earlier of two moments, where there are any
 abbrev pub earliest_of : Option Moment → Option Moment → Option Moment
 earliest_of next None = next
-earliest_of next (Some m) = Some (earlier_of next m)
+earliest_of next (Some m) = Some (sooner_of next m)
 
 -- the number is strictly between two
 abbrev pub IsBetween : ℤ → ℤ → ℤ → Type 0

@@ -6,7 +6,7 @@ ghost use Rattle.smol_geom.specs.Moments.{IsMoment, is_before};
 ghost use Rattle.smol_types.specs.declared.wall.Wall.{Wall};
 ghost use Rattle.smol_meaning.specs.Folds.{IsPanelRect, IsWallPlane, IsSmallFold};
 ghost use Rattle.smol_meaning.specs.Plates.{Rectangle, is_met, plane_at};
-ghost use Rattle.smol_travel.specs.Meetings.{IsBetween, IsLater, IsNext, IsReach, earlier_of, earliest_of, rect_sheets, wall_sheet, wall_sheets, sheets_of};
+ghost use Rattle.smol_travel.specs.Meetings.{IsBetween, ComesLater, IsNext, IsReach, sooner_of, earliest_of, rect_sheets, wall_sheet, wall_sheets, sheets_of};
 
 use crate::Panels;
 use crate::coordinates::{coordinate_from, ends_on, folded, ticks_to, unfolded};
@@ -101,7 +101,7 @@ fn next_of_walls(
 
 // The earlier of two moments.
 fn earlier(one: Option<Moment>, other: Moment) -> Moment
-    ensures { result ≡ earlier_of one other }
+    ensures { result ≡ sooner_of one other }
 {
     match one {
         Some(moment) => {
@@ -173,8 +173,8 @@ fn rect_meeting_in_reach(
     requires from { IsWithin (2 ^ 57) from.now.0 }
     requires by { IsWithin (2 ^ 34) by.now.0 }
     requires fold { IsSmallFold fold.now }
-    ensures later { IfSome result (λ m. IsLater from.now by.now last.now m) }
-    ensures only { (m : Moment) → IsLater from.now by.now last.now m →
+    ensures later { IfSome result (λ m. ComesLater from.now by.now last.now m) }
+    ensures only { (m : Moment) → ComesLater from.now by.now last.now m →
         is_met from.now by.now fold.now m (Rectangle rect.now) ≡ true → result ≡ Some m }
 {
     if is_reached(reach, rect.axis, rect.low[rect.axis as usize]) {
@@ -198,8 +198,8 @@ fn wall_meeting_in_reach(
     requires from { IsWithin (2 ^ 57) from.now.0 }
     requires by { IsWithin (2 ^ 34) by.now.0 }
     requires fold { IsSmallFold fold.now }
-    ensures later { IfSome result (λ m. IsLater from.now by.now last.now m) }
-    ensures only { (m : Moment) → IsLater from.now by.now last.now m →
+    ensures later { IfSome result (λ m. ComesLater from.now by.now last.now m) }
+    ensures only { (m : Moment) → ComesLater from.now by.now last.now m →
         is_met from.now by.now fold.now m (wall_sheet wall.now) ≡ true → result ≡ Some m }
 {
     if is_reached(reach, wall.axis, wall.plane) {
@@ -215,8 +215,8 @@ fn rect_meeting(rect: &Rect, from: &Place, by: &Step3, fold: &Fold, last: &Momen
     requires from { IsWithin (2 ^ 57) from.now.0 }
     requires by { IsWithin (2 ^ 34) by.now.0 }
     requires fold { IsSmallFold fold.now }
-    ensures later { IfSome result (λ m. IsLater from.now by.now last.now m) }
-    ensures only { (m : Moment) → IsLater from.now by.now last.now m →
+    ensures later { IfSome result (λ m. ComesLater from.now by.now last.now m) }
+    ensures only { (m : Moment) → ComesLater from.now by.now last.now m →
         is_met from.now by.now fold.now m (Rectangle rect.now) ≡ true → result ≡ Some m }
 {
     let moment = moment_at(rect.axis, rect.low[rect.axis as usize], from, by, fold)?;
@@ -233,8 +233,8 @@ fn wall_meeting(wall: &Wall, from: &Place, by: &Step3, fold: &Fold, last: &Momen
     requires from { IsWithin (2 ^ 57) from.now.0 }
     requires by { IsWithin (2 ^ 34) by.now.0 }
     requires fold { IsSmallFold fold.now }
-    ensures later { IfSome result (λ m. IsLater from.now by.now last.now m) }
-    ensures only { (m : Moment) → IsLater from.now by.now last.now m →
+    ensures later { IfSome result (λ m. ComesLater from.now by.now last.now m) }
+    ensures only { (m : Moment) → ComesLater from.now by.now last.now m →
         is_met from.now by.now fold.now m (wall_sheet wall.now) ≡ true → result ≡ Some m }
 {
     let moment = moment_at(wall.axis, wall.plane, from, by, fold)?;

@@ -1,4 +1,4 @@
-ghost use Rattle.std.specs.Prelude.{◌≡◌, ◌<◌, ◌^◌, length};
+ghost use Rattle.std.specs.Prelude.{◌≡◌, ◌<◌, length};
 ghost use Rattle.smol_geom.specs.declared.cuboid.Cuboid.{Cuboid};
 ghost use Rattle.smol_geom.specs.Moments.{IsMoment};
 ghost use Rattle.smol_types.specs.Sound.{IsSound};

@@ -1,4 +1,4 @@
-use Rattle.std.proofs.Common.{◌≡◌, ◌∙◌, List, [], ◌∷◌, FitsSigned, w64, arith}
+use Rattle.std.proofs.Common.{◌∙◌, [], ◌∷◌, FitsSigned, w64, arith}
 use Rattle.std.specs.Int.{w8}
 use Rattle.std.proofs.lemmas.Int.{to_z-of_z}
 use Rattle.smol_geom.specs.Axes.{on_axis}

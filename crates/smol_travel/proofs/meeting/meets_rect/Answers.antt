@@ -1,4 +1,4 @@
-use Rattle.std.proofs.Common.{◌≤◌, unsigned_abs, FitsSigned, w64, arith, refl}
+use Rattle.std.proofs.Common.{◌≤◌, unsigned_abs, FitsSigned, w64, arith}
 use Rattle.std.proofs.lemmas.Bool.{both_ways}
 use Rattle.std.proofs.lemmas.Int.{to_z-of_z}
 use Rattle.smol_geom.specs.Axes.{on_axis}

@@ -1,8 +1,7 @@
-use Rattle.std.proofs.Common.{◌≡◌, ℕ, ◌<◌, ◌≤◌, ◌^◌, ◌-ℤ◌, ◌*ℤ◌, ◌+ℤ◌, unsigned_abs, FitsSigned, w64, Some, None, refl, sym, ◌∙◌, ap, subst, arith, true, false}
+use Rattle.std.proofs.Common.{◌≡◌, ◌≤◌, ◌^◌, ◌*ℤ◌, ◌+ℤ◌, unsigned_abs, FitsSigned, w64, Some, sym, ◌∙◌, ap, subst, arith}
 use Rattle.std.specs.Int.{w8}
 use Rattle.std.proofs.lemmas.Bool.{eq-eqb}
-use Rattle.std.proofs.lemmas.Int.{ints, to_z-of_z}
-use Rattle.smol_geom.specs.declared.moment.Moment.{Moment}
+use Rattle.std.proofs.lemmas.Int.{to_z-of_z}
 use Rattle.smol_geom.specs.Axes.{on_axis, IsEven}
 use Rattle.smol_geom.specs.Fold.{IsSign}
 use Rattle.smol_geom.proofs.EachAxis.{at_axis}

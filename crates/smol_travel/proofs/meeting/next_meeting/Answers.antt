@@ -1,5 +1,5 @@
-use Rattle.std.proofs.Common.{List, ap, sym, subst, ◌∙◌}
-use Rattle.std.specs.Prelude.{All, ◌++◌, map}
+use Rattle.std.proofs.Common.{ap, sym, subst, ◌∙◌}
+use Rattle.std.specs.Prelude.{All, map}
 use Rattle.smol_types.specs.declared.surface.Panel.{Panel}
 use Rattle.smol_types.specs.declared.wall.Wall.{Wall}
 use Rattle.smol_meaning.specs.Folds.{IsPanelRect, IsWallPlane}

@@ -1,4 +1,4 @@
-use Rattle.std.proofs.Common.{◌≡◌, ◌<◌, ◌≤◌, length, pos, ap, arith, sym, subst}
+use Rattle.std.proofs.Common.{◌<◌, ◌≤◌, length, pos, ap, arith, sym, subst}
 use Rattle.std.proofs.lemmas.List.{take_all, get_or-map, length-map}
 use Rattle.smol_meaning.specs.Plates.{Rectangle, Plane}
 use Rattle.smol_travel.specs.Meetings.{IsNext, rect_sheets}

@@ -1,4 +1,4 @@
-use Rattle.std.proofs.Common.{◌≡◌, ◌≤◌, sym, ◌∙◌, ap, true, false, arith, unsigned_abs, FitsSigned, w64, ◌==◌}
+use Rattle.std.proofs.Common.{◌≤◌, sym, ◌∙◌, ap, false, arith, unsigned_abs, FitsSigned, w64, ◌==◌}
 use Rattle.std.proofs.lemmas.Bool.{both_ways, and_parts}
 use Rattle.std.proofs.lemmas.Int.{to_z-of_z}
 use Rattle.smol_geom.specs.declared.moment.Moment.{Moment}

@@ -1,4 +1,4 @@
-use Rattle.std.proofs.Common.{◌≡◌, ◌≤◌, sym, ◌∙◌, ap, arith, FitsSigned, w64}
+use Rattle.std.proofs.Common.{sym, ◌∙◌, ap, arith, FitsSigned, w64}
 use Rattle.std.proofs.lemmas.Bool.{both_ways}
 use Rattle.std.proofs.lemmas.Int.{to_z-of_z}
 use Rattle.smol_geom.specs.Axes.{on_axis}

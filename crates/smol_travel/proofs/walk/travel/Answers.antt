@@ -1,8 +1,7 @@
-use Rattle.std.proofs.Common.{◌≡◌, ◌<◌, refl, sym, ◌∙◌, ap, subst, arith}
-use Rattle.smol_geom.specs.declared.moment.Moment.{Moment}
+use Rattle.std.proofs.Common.{sym, ◌∙◌, ap, subst, arith}
 use Rattle.smol_geom.specs.Moments.{moments, moments_after}
 use Rattle.smol_types.specs.declared.draft.Draft.{Draft}
-use Rattle.smol_meaning.specs.declared.way.Standing.TheVariants.{Goes, Gone}
+use Rattle.smol_meaning.specs.declared.way.Standing.TheVariants.{Goes}
 use Rattle.smol_meaning.specs.declared.way.Travelled.TheVariants.{At}
 use Rattle.smol_meaning.specs.Moves.{IsMove, EndsWithin}
 use Rattle.smol_meaning.specs.Seen.{plates_of, way}
