@@ -1,11 +1,11 @@
 -- What the walk from one meeting to the next rests on.
-use Rattle.std.specs.Prelude.{ℕ, ◌≡◌, ◌<◌, ◌^◌, ◌⊎◌, true, false, List, [], ◌∷◌, All, ℤ, pos, Option, Some, None, MatchOption, map, ◌++◌, int_lt, if◌then◌else◌}
+use Rattle.std.specs.Prelude.{ℕ, ◌≡◌, ◌<◌, ◌^◌, ◌⊎◌, true, false, List, [], ◌∷◌, All, ℤ, pos, Option, Some, None, MatchOption, map, ◌++◌, ◌<ℤ◌, int_lt, if◌then◌else◌}
 use Rattle.smol_geom.specs.declared.place.Place.{Place}
 use Rattle.smol_geom.specs.declared.place.Step3.{Step3}
 use Rattle.smol_geom.specs.declared.moment.Moment.{Moment}
 use Rattle.smol_geom.specs.declared.fold.Fold.{Fold}
 use Rattle.smol_geom.specs.declared.rect.Rect.{Rect}
-use Rattle.smol_geom.specs.Axes.{IsWithin}
+use Rattle.smol_geom.specs.Axes.{IsWithin, on_axis}
 use Rattle.smol_geom.specs.Moments.{IsMoment, is_before, moments, moments_after}
 use Rattle.smol_types.specs.declared.draft.Draft.{Draft}
 use Rattle.smol_types.specs.declared.surface.Panel.{Panel}
@@ -13,7 +13,7 @@ use Rattle.smol_types.specs.declared.wall.Wall.{Wall}
 use Rattle.smol_meaning.specs.declared.way.Response.{Response}
 use Rattle.smol_meaning.specs.declared.way.Standing.TheVariants.{Goes}
 use Rattle.smol_meaning.specs.declared.way.Response.TheVariants.{Reflect, Absorb, Jump, Pass}
-use Rattle.smol_meaning.specs.Plates.{Sheet, Rectangle, Plane, Plate, is_met, goes_up, response_of, first_of}
+use Rattle.smol_meaning.specs.Plates.{Sheet, Rectangle, Plane, Plate, is_met, plane_at, goes_up, response_of, first_of}
 use Rattle.smol_meaning.specs.Folds.{FoldFits}
 use Rattle.smol_meaning.specs.Seen.{plates_of}
 use Rattle.smol_meaning.specs.Way.{after_moments, straight}
@@ -66,6 +66,15 @@ sooner_of (Some n) m = if is_before m n then m else n
 abbrev pub earliest_of : Option Moment → Option Moment → Option Moment
 earliest_of next None = next
 earliest_of next (Some m) = Some (sooner_of next m)
+
+-- the number is strictly between two
+abbrev pub IsBetween : ℤ → ℤ → ℤ → Type 0
+IsBetween low high z = (low <ℤ z) × (z <ℤ high)
+
+-- at each moment of the move the true coordinate on the moment's axis is strictly between these, as long as the fold stays
+pub record IsReach (from : Place) (by : Step3) (f : Fold) (low high : List ℤ) : Type 0 where
+  pub between : (m : Moment) → IsMoment from by m
+      → IsBetween (on_axis low m.axis) (on_axis high m.axis) (plane_at from by f m)
 
 -- the gap isn't 0, and leads up exactly where the way leads up
 abbrev pub IsSameWay : ℤ → ℤ → Type 0

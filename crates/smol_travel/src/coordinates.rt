@@ -2,7 +2,7 @@
 ghost use Rattle.std.specs.Prelude.{◌≡◌, ◌↔◌, ℕ, ◌<◌, ◌≤◌, ◌+◌, ◌^◌, IfSome, IsTrue, int_lt, neg_ℤ, ◌*ℤ◌, ◌-ℤ◌, ◌+ℤ◌, pos, unsigned_abs};
 ghost use Rattle.smol_geom.specs.Fold.{IsSign};
 ghost use Rattle.smol_geom.specs.Moments.{coordinate_from};
-ghost use Rattle.smol_travel.specs.Meetings.{IsSameWay};
+ghost use Rattle.smol_travel.specs.Meetings.{IsBetween, IsSameWay};
 
 // How many ticks of a way lead from its start to a coordinate strictly within it.
 pub fn ticks_to(start: i64, way: i64, goal: i64) -> Option<u64>
@@ -119,6 +119,24 @@ pub fn end_on(sign: i8, start: i64, way: i64, shift: i64) -> i64
     ensures { result ≡ sign *ℤ (start +ℤ way) +ℤ shift }
 {
     folded(sign, way_end(start, way), shift)
+}
+
+// The lower and the higher end of what a fold carries a way to.
+pub fn ends_on(sign: i8, start: i64, way: i64, shift: i64) -> (i64, i64)
+    requires sign { IsSign sign }
+    requires start { unsigned_abs start ≤ 2 ^ 57 }
+    requires way { unsigned_abs way ≤ 2 ^ 34 }
+    requires shift { unsigned_abs shift ≤ 2 ^ 58 }
+    ensures { (n : ℕ) → 0 < n → n < unsigned_abs way
+        → IsBetween result.0 result.1 (sign *ℤ coordinate_from start way n +ℤ shift) }
+{
+    let first = folded(sign, start, shift);
+    let last = end_on(sign, start, way, shift);
+    if first < last {
+        (first, last)
+    } else {
+        (last, first)
+    }
 }
 
 // Where a whole way ends.
