@@ -7,11 +7,10 @@ ghost use Rattle.smol_reactions.specs.Content.{are_shared, chance_alone, chance_
 ghost use Rattle.smol_reactions.specs.Changes.{fresh_product, fresh_reaction, with_chance, with_offset, with_placement, with_radius};
 
 use crate::product_placement::{PlacementKind, ProductPlacement, placement_kind_of};
-use crate::reaction_probability::threshold_of;
 use crate::scheme::Scheme;
 use crate::{binding_radius, product_placement, reaction, reaction_probability};
 use smol_geom::Step3;
-use smol_line::{NameSet, Refusal};
+use smol_line::{NameSet, Refusal, threshold_of};
 use smol_num::{Micro, Threshold};
 use smol_text::StatedLine;
 use smol_types::{Items, Placement, Product, Reaction};
