@@ -1,5 +1,5 @@
 -- What one command printed, as it is written: its piece stands alone on the pages.
-use Rattle.std.proofs.Common.{◌≡◌, ◌<◌, ◌≤◌, ℕ, zero, suc, ◌+◌, ◌-◌, ◌==◌, ◌≢◌, if◌then◌else◌, Bool, true, false, List, [], ◌∷◌, ◌++◌, length, get_or, take, replicate, arith, refl, sym, ap, subst, ◌∙◌, Option, inl, inr}
+use Rattle.std.proofs.Common.{◌≡◌, ◌<◌, ◌≤◌, ℕ, zero, suc, ◌+◌, ◌==◌, ◌≢◌, if◌then◌else◌, true, false, List, [], ◌∷◌, ◌++◌, length, get_or, take, replicate, arith, refl, sym, ap, subst, ◌∙◌, Option, inl, inr}
 use Rattle.std.proofs.lemmas.Bool.{cases_lt}
 use Rattle.std.proofs.lemmas.Bool.Decides.{nat_tests}
 use Rattle.std.proofs.lemmas.List.{append-nil, length-replicate, get_or-replicate}

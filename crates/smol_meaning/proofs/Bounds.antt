@@ -1,5 +1,5 @@
 -- Each moment keeps a fold within its bounds.
-use Rattle.std.proofs.Common.{⊎_elim, ◌≡◌, ℕ, zero, suc, ◌+◌, ◌*◌, ◌^◌, ◌%◌, ◌<◌, ◌≤◌, ◌==◌, Bool, true, ◌⊎◌, inl, inr, List, [], ◌∷◌, length, refl, sym, ◌∙◌, ap, subst, arith, ℤ, pos, neg_ℤ, ◌+ℤ◌, ◌-ℤ◌, ◌*ℤ◌, unsigned_abs, get_or-set_same, get_or-set_other, length-set}
+use Rattle.std.proofs.Common.{⊎_elim, ◌≡◌, ℕ, zero, suc, ◌+◌, ◌^◌, ◌%◌, ◌<◌, ◌≤◌, ◌==◌, Bool, true, ◌⊎◌, inl, inr, List, [], ◌∷◌, length, refl, sym, ◌∙◌, ap, subst, arith, ℤ, pos, neg_ℤ, ◌+ℤ◌, ◌-ℤ◌, ◌*ℤ◌, unsigned_abs, get_or-set_same, get_or-set_other, length-set}
 use Rattle.std.specs.List.{All}
 use Rattle.std.specs.Prelude.{max}
 use Rattle.std.proofs.lemmas.Bool.{cases_eq, cases_lt, cond_both, and_parts}
@@ -8,7 +8,6 @@ use Rattle.smol_geom.specs.declared.place.Place.{Place}
 use Rattle.smol_geom.specs.declared.place.Step3.{Step3}
 use Rattle.smol_geom.specs.declared.moment.Moment.{Moment}
 use Rattle.smol_geom.specs.declared.fold.Fold.{Fold}
-use Rattle.smol_geom.specs.declared.rect.Rect.{Rect}
 use Rattle.smol_geom.specs.Axes.{EachAxis, on_axis}
 use Rattle.smol_geom.specs.Fold.{IsSign, true_point}
 use Rattle.smol_geom.specs.Fraction.{whole, ◌≤ℚ◌}
@@ -21,7 +20,6 @@ use Rattle.smol_geom.proofs.Ways.{low_products, high_products}
 use Rattle.smol_types.specs.Limits.{farthest}
 use Rattle.smol_meaning.specs.declared.way.Response.{Response}
 use Rattle.smol_meaning.specs.declared.way.Response.TheVariants.{Reflect, Absorb, Jump, Pass}
-use Rattle.smol_meaning.specs.declared.way.Standing.{Standing}
 use Rattle.smol_meaning.specs.Plates.{Plate, Sheet, Rectangle, Plane, is_on, is_met, goes_up, response_of, responses_met, deciding, plane_at, done_by, are_same, shifted, mirrored, sheet_axis, sheet_plane, IsOn}
 use Rattle.smol_meaning.specs.Way.{end_on}
 use Rattle.smol_meaning.specs.Moves.{IsMove}

@@ -9,7 +9,6 @@ use Rattle.smol_geom.specs.declared.place.Step3.{Step3}
 use Rattle.smol_geom.specs.declared.moment.Moment.{Moment}
 use Rattle.smol_geom.specs.declared.fold.Fold.{Fold}
 use Rattle.smol_geom.specs.declared.cuboid.Cuboid.{Cuboid}
-use Rattle.smol_geom.specs.declared.rect.Rect.{Rect}
 use Rattle.smol_geom.specs.Axes.{on_axis, IsOdd, IsEven}
 use Rattle.smol_geom.specs.Fraction.{Fraction, whole, ◌≤ℚ◌}
 use Rattle.smol_geom.specs.Fold.{IsSign, true_point}

@@ -1,6 +1,6 @@
 -- What commands keep: each state fits its configuration, serials stay in order, and the step's number stays.
 use Rattle.std.proofs.Common.{◌≡◌, ℕ, zero, suc, ◌+◌, ◌*◌, ◌≤◌, ◌<◌, ℤ, Bool, true, false, not, if◌then◌else◌, List, [], ◌∷◌, ◌++◌, length, All, filter, unsigned_abs, inl, inr, ◌⊎◌, refl, sym, ap, subst, arith}
-use Rattle.std.specs.Prelude.{nat_lt, Option}
+use Rattle.std.specs.Prelude.{nat_lt}
 use Rattle.std.specs.List.{list_all}
 use Rattle.std.proofs.lemmas.Bool.Decides.{nat_tests}
 use Rattle.std.proofs.lemmas.Int.{ints}

@@ -2,7 +2,7 @@
 use Rattle.std.proofs.Common.{◌≡◌, ℕ, zero, suc, ◌+◌, ◌%◌, ◌^◌, ◌≤◌, ℤ, pos, List, [], ◌∷◌, length, All, unsigned_abs, refl, sym, subst, arith}
 use Rattle.std.proofs.lemmas.List.Elements.{All-nil, All-cons}
 use Rattle.smol_geom.specs.declared.place.Place.{Place}
-use Rattle.smol_geom.specs.Axes.{on_axis, EachAxis, IsEven, IsWithin}
+use Rattle.smol_geom.specs.Axes.{on_axis, IsEven, IsWithin}
 use Rattle.smol_geom.proofs.EachAxis.{at_axis}
 use Rattle.smol_types.specs.declared.surface.Panel.{Panel}
 use Rattle.smol_types.specs.Compartments.{IsPoint}

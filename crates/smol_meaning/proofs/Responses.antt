@@ -1,5 +1,5 @@
 -- What decides among the plates that are met.
-use Rattle.std.proofs.Common.{⊎_elim, ◌≡◌, ℕ, ◌*◌, ◌≤◌, Bool, true, ◌⊎◌, inl, inr, List, [], ◌∷◌, refl, ◌∙◌, ap, arith, ℤ, pos, ◌≤ℤ◌, ◌*ℤ◌, int_le}
+use Rattle.std.proofs.Common.{⊎_elim, ◌≡◌, ℕ, ◌≤◌, true, inl, inr, List, [], ◌∷◌, refl, ◌∙◌, ap, arith, ℤ, pos, ◌≤ℤ◌, ◌*ℤ◌, int_le}
 use Rattle.std.proofs.lemmas.Bool.{cases_Bool, cond_both, le-leb, and_from, and_parts}
 use Rattle.std.proofs.lemmas.Int.{ints}
 use borrow.Author.Differences.{le-true, le-false}

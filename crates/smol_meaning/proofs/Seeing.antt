@@ -6,7 +6,7 @@ use Rattle.std.proofs.lemmas.Bool.{cond_both}
 use Rattle.std.proofs.lemmas.Int.{ints}
 use Rattle.std.proofs.lemmas.List.Elements.{All-cons, All-nil, All-map, All-append}
 use Rattle.std.proofs.lemmas.Option.{slice_get_cases}
-use Rattle.smol_geom.specs.Axes.{EachAxis, IsEven, on_axis}
+use Rattle.smol_geom.specs.Axes.{IsEven, on_axis}
 use Rattle.smol_geom.proofs.EachAxis.{at_axis}
 use Rattle.smol_types.specs.declared.draft.Draft.{Draft}
 use Rattle.smol_types.specs.declared.surface.Action.{Action}

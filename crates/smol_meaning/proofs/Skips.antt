@@ -6,7 +6,6 @@ use Rattle.smol_geom.specs.declared.place.Place.{Place}
 use Rattle.smol_geom.specs.declared.place.Step3.{Step3}
 use Rattle.smol_geom.specs.declared.moment.Moment.{Moment}
 use Rattle.smol_geom.specs.declared.fold.Fold.{Fold}
-use Rattle.smol_meaning.specs.declared.way.Standing.{Standing}
 use Rattle.smol_meaning.specs.declared.way.Standing.TheVariants.{Goes}
 use Rattle.smol_geom.specs.Moments.{Has, IsInOrder}
 use Rattle.smol_geom.specs.Moments.{is_before, moments_after}

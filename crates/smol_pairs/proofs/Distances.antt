@@ -1,5 +1,5 @@
 -- Places that are too far apart on one axis are too far apart.
-use Rattle.std.proofs.Common.{⊎_elim, ◌≡◌, ℕ, ◌+◌, ◌*◌, ◌<◌, ◌≤◌, Bool, false, ◌&&◌, arith}
+use Rattle.std.proofs.Common.{⊎_elim, ◌≡◌, ℕ, ◌+◌, ◌*◌, ◌<◌, ◌≤◌, false, ◌&&◌, arith}
 use Rattle.std.specs.Prelude.{nat_le}
 use Rattle.std.proofs.lemmas.Bool.{and_cases, lt-leb, leb-false}
 use Rattle.std.proofs.lemmas.Nat.{mul-le}

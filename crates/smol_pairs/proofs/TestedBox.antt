@@ -13,7 +13,6 @@ use Rattle.smol_types.specs.declared.species.Species.{Species}
 use Rattle.smol_types.specs.declared.state.Mol.{Mol}
 use Rattle.smol_types.specs.declared.surface.Panel.{Panel}
 use Rattle.smol_types.specs.declared.surface.Surface.{Surface}
-use Rattle.smol_types.specs.declared.wall.Letter.{Letter}
 use Rattle.smol_types.specs.declared.wall.Letter.TheVariants.{R}
 use Rattle.smol_types.specs.declared.wall.Wall.{Wall}
 use Rattle.smol_types.specs.Commands.{IsCommand}

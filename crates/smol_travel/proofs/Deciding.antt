@@ -1,6 +1,6 @@
 -- The walk through the panels and walls for the response that decides.
 use Rattle.std.proofs.Common.{◌≡◌, ℕ, suc, ◌+◌, ◌<◌, Bool, true, false, List, [], ◌∷◌, ◌++◌, ◌-◌, ◌≤◌, length, get_or, drop, refl, sym, ◌∙◌, ap, subst, arith, unsigned_abs}
-use Rattle.std.specs.Prelude.{map, All, Option, Some, IfSome, slice_get}
+use Rattle.std.specs.Prelude.{map, All, Some, IfSome, slice_get}
 use Rattle.std.specs.List.{enumerate_from}
 use Rattle.std.proofs.lemmas.List.{get_or-map, length-map}
 use Rattle.std.proofs.lemmas.List.FromFn.{length-enumerate_from, get_or-enumerate_from}

@@ -1,4 +1,4 @@
-use Rattle.std.proofs.Common.{Bool, not, List, All, sym, subst, ap, ◌∙◌}
+use Rattle.std.proofs.Common.{List, All, sym, subst, ap, ◌∙◌}
 use Rattle.std.specs.Prelude.{is_some}
 use Rattle.std.specs.List.{list_any}
 use Rattle.smol_types.specs.declared.reaction.Reaction.{Reaction}
