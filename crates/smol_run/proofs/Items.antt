@@ -14,7 +14,7 @@ use Rattle.smol_run.specs.declared.words.WordFault.{WordFault}
 use Rattle.smol_types.specs.declared.fault.Kind.{Kind}
 use Rattle.smol_line.specs.Numbers.{count_in}
 use Rattle.smol_line.proofs.Ranges.{count_in-low, count_in-high}
-use Rattle.smol_run.specs.Words.{AreWorkers, Finds, optional_entry, is_file_name, IsSecond, item_of_two, items_of, job_by, joined_items, NamesWithin, names_in, only_entry, file_job, seeds_in, StandsAt, item_len, worker_counts_in, workers_in, WorkersWithin}
+use Rattle.smol_run.specs.Words.{AreWorkers, Finds, optional_entry, is_file_name, IsSecond, item_of_two, items_of, job_by, joined_items, NamesWithin, names_in, only_entry, file_job, seed_in, seeds_in, StandsAt, item_len, worker_counts_in, workers_in, WorkersWithin}
 
 -- the entry at a place stands before those behind it
 pub drop_at : {X : Type 0} (xs : List X) (place : ℕ) (x : X) → slice_get xs place ≡ Some x → drop place xs ≡ x ∷ drop (place + 1) xs
