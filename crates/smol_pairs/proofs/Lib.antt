@@ -1,4 +1,5 @@
 pub mod Distances
 pub mod Meetings
 pub mod Passing
+pub mod Reaching
 pub mod TestedBox

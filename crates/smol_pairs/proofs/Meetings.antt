@@ -1,21 +1,20 @@
 -- The pairs that encounters make.
-use Rattle.std.proofs.Common.{◌≡◌, ℕ, ◌+◌, ◌<◌, ◌≤◌, Bool, true, false, ◌&&◌, List, [], ◌∷◌, ◌++◌, length, get_or, drop, map, All, Option, Some, None, refl, sym, ap, subst, ◌∙◌, arith, append_assoc, append-nil, drop-cons, add-one}
+use Rattle.std.proofs.Common.{◌≡◌, ℕ, ◌+◌, ◌<◌, ◌≤◌, Bool, true, false, List, [], ◌∷◌, ◌++◌, length, get_or, drop, map, All, Option, None, refl, sym, ap, subst, ◌∙◌, arith, append_assoc, append-nil, drop-cons, add-one}
 use Rattle.std.specs.Prelude.{if◌then◌else◌, is_some, filter, Contains}
 use Rattle.std.specs.List.{list_any}
-use Rattle.std.proofs.lemmas.Bool.{or_parts}
 use Rattle.std.proofs.lemmas.List.{drop_all, get_or-map, map-append}
 use Rattle.std.proofs.lemmas.List.Elements.{All-nil, All-cons, All-append, All-head, All-tail, All-weaker, Contains-append_left, Contains-append_right, Contains-push}
-use Rattle.smol_num.specs.declared.quantities.Micro.{Micro}
 use Rattle.smol_types.specs.declared.draft.Draft.{Draft}
 use Rattle.smol_types.specs.declared.reaction.Reaction.{Reaction}
 use Rattle.smol_types.specs.declared.state.Mol.{Mol}
 use Rattle.smol_types.specs.State.{Ascend}
-use Rattle.smol_types.specs.Reactions.{reacts_together}
 use Rattle.smol_plan.specs.declared.pair.Pair.{Pair}
 use Rattle.smol_plan.specs.Pair.{IsOrdered}
-use Rattle.smol_meaning.specs.Encounters.{Encounter, are_near, candidates_of, encounters_from, encounters_of, encounters_of_two, encounters_with, may_react, pair_of}
+use Rattle.smol_meaning.specs.Encounters.{Encounter, candidates_of, encounters_from, encounters_of, encounters_of_two, encounters_with, may_react, pair_of}
 use Rattle.smol_meaning.specs.Events.{is_free}
 use Rattle.smol_pairs.specs.Moved.{IsAmong, free_serials}
+use Rattle.smol_pairs.specs.Reach.{reach_of}
+use Rattle.smol_pairs.proofs.Reaching.{IsBeyond, beyond_first, no_reach, not_by}
 
 -- where encounters come before others, or are left out, the pairs are those so far and those of the others
 pub pairs_taken : (here there all : List Encounter) (taken : Bool) (so_far new : List Pair) → all ≡ (if taken then here else []) ++ there → taken ≡ true
@@ -29,6 +28,13 @@ pub pairs_passed : (here there all : List Encounter) (taken : Bool) (so_far : Li
     → so_far ++ map pair_of there ≡ so_far ++ map pair_of all
 pairs_passed here there all true so_far is taken = absurd (cc)
 pairs_passed here there all false so_far is taken = ap (λ (encounters : List Encounter). so_far ++ map pair_of encounters) (sym is)
+
+-- the same where others follow none
+pub pairs_none : (here there all : List Encounter) (taken : Bool) (so_far : List Pair) → all ≡ (if taken then here else []) ++ there → here ≡ []
+    → so_far ++ map pair_of there ≡ so_far ++ map pair_of all
+pairs_none here there all true so_far is none =
+    ap (λ (encounters : List Encounter). so_far ++ map pair_of encounters) (sym (ap (λ (first : List Encounter). first ++ there) none) ∙ sym is)
+pairs_none here there all false so_far is none = ap (λ (encounters : List Encounter). so_far ++ map pair_of encounters) (sym is)
 
 module _ (draft : Draft) (seed k : ℕ) where
   -- the encounters of a molecule with those that are left, the next one first
@@ -64,43 +70,36 @@ module _ (draft : Draft) (seed k : ℕ) where
       let none : drop rank mols ≡ [] = drop_all rank mols past in
       sym (append-nil pairs) ∙ sym (ap (λ (left : List Mol). pairs ++ map pair_of (encounters_from draft seed k rank left)) none) ∙ is
 
-  -- without a radius no two molecules react
-  never_near : (reaction : Reaction) (e : Encounter) → is_some reaction.radius ≡ false → may_react draft seed k reaction e ≡ false
-  never_near reaction e none = cases (reacts_together e.a.species e.b.species reaction.reactants) reaction.radius _ none
-    where
-      cases : (b : Bool) (radius : Option Micro) (rest : Bool) → is_some radius ≡ false
-          → (b && (are_near radius e.a.place e.b.place && rest)) ≡ false
-      cases true None rest none = refl
-      cases false None rest none = refl
-      cases b (Some radius) rest none = absurd (cc)
-
-  none_of_two : (rank_a : ℕ) (a : Mol) (rank_b : ℕ) (b : Mol) (number : ℕ) (reactions : List Reaction)
-      → list_any (λ (reaction : Reaction). is_some reaction.radius) reactions ≡ false
+  -- molecules that are beyond the reach of the first have no encounter
+  pub none_of_two : (rank_a : ℕ) (a : Mol) (rank_b : ℕ) (b : Mol) (number : ℕ) (reactions : List Reaction)
+      → IsBeyond (reach_of a.species reactions) a.place b.place
       → encounters_of_two draft seed k rank_a a rank_b b number reactions ≡ []
-  none_of_two rank_a a rank_b b number [] none = refl
-  none_of_two rank_a a rank_b b number (reaction ∷ reactions) none =
-      let parts = or_parts (is_some reaction.radius) (list_any (λ (reaction : Reaction). is_some reaction.radius) reactions) none in
+  none_of_two rank_a a rank_b b number [] out = refl
+  none_of_two rank_a a rank_b b number (reaction ∷ reactions) out =
+      let parts = beyond_first a.species reaction reactions a.place b.place out in
       let e : Encounter = record { a = a; b = b; rank_a = rank_a; rank_b = rank_b; reaction = number } in
       let rest = encounters_of_two draft seed k rank_a a rank_b b (number + 1) reactions in
-      ap (λ (here : Bool). if here then e ∷ rest else rest) (never_near reaction e parts.0)
+      let never : may_react draft seed k reaction e ≡ false = not_by a.species b.species reaction a.place b.place _ parts.0 in
+      ap (λ (here : Bool). if here then e ∷ rest else rest) never
       ∙ none_of_two rank_a a rank_b b (number + 1) reactions parts.1
 
   left_out : (taken : Bool) (here there : List Encounter) → here ≡ [] → there ≡ [] → (if taken then here else []) ++ there ≡ []
   left_out true here there none rest = (λ i. none i ++ rest i)
   left_out false here there none rest = rest
 
-  none_with : (rank_a : ℕ) (a : Mol) (rank : ℕ) (mols : List Mol)
-      → list_any (λ (reaction : Reaction). is_some reaction.radius) draft.reactions ≡ false
+  -- without a reach it meets nobody
+  pub none_with : (rank_a : ℕ) (a : Mol) (rank : ℕ) (mols : List Mol) → reach_of a.species draft.reactions ≡ None
       → encounters_with draft seed k rank_a a rank mols ≡ []
   none_with rank_a a rank [] none = refl
   none_with rank_a a rank (b ∷ mols) none =
-      left_out (is_free draft seed k b) _ _ (none_of_two rank_a a rank b 0 draft.reactions none) (none_with rank_a a (rank + 1) mols none)
+      let out = subst (λ (reach : Option ℕ). IsBeyond reach a.place b.place) (sym none) tt in
+      left_out (is_free draft seed k b) _ _ (none_of_two rank_a a rank b 0 draft.reactions out) (none_with rank_a a (rank + 1) mols none)
 
   none_from : (rank : ℕ) (mols : List Mol) → list_any (λ (reaction : Reaction). is_some reaction.radius) draft.reactions ≡ false
       → encounters_from draft seed k rank mols ≡ []
   none_from rank [] none = refl
   none_from rank (a ∷ mols) none =
-      left_out (is_free draft seed k a) _ _ (none_with rank a (rank + 1) mols none) (none_from (rank + 1) mols none)
+      left_out (is_free draft seed k a) _ _ (none_with rank a (rank + 1) mols (no_reach a.species draft.reactions none)) (none_from (rank + 1) mols none)
 
   pub no_candidates : (mols : List Mol) → list_any (λ (reaction : Reaction). is_some reaction.radius) draft.reactions ≡ false
       → candidates_of draft seed k mols ≡ []

@@ -132,7 +132,7 @@ module _ (first second : Species) (surface : Surface) (reactions : List Reaction
     seed = None;
   }
 
-  pub box_sound : first.step ≡ 0 → second.step ≡ 0 → length reactions ≤ 2 → All (IsReaction 3 2) reactions → All HasTwo reactions → IsSound box
+  pub box_sound : first.step ≡ 0 → second.step ≡ 0 → length reactions ≡ 3 → All (IsReaction 3 2) reactions → All HasTwo reactions → IsSound box
   box_sound still calm few of two = record {
     dims_above = omega arith;
     dims_below = omega arith;

@@ -1,3 +1,4 @@
 pub mod Moved
 pub mod Near
 pub mod Ranked
+pub mod Reach

@@ -1,5 +1,5 @@
 //! The pairs that may react, looked for among all pairs of molecules.
-ghost use Rattle.std.specs.Prelude.{◌≡◌, ◌+◌, ◌<◌, ◌≤◌, ◌++◌, All, IfOk, OnOk, is_some, map, drop};
+ghost use Rattle.std.specs.Prelude.{◌≡◌, ◌+◌, ◌<◌, ◌≤◌, ◌++◌, All, IfOk, OnOk, Some, is_some, map, drop};
 ghost use Rattle.std.specs.List.{list_any};
 ghost use Rattle.smol_types.specs.declared.reaction.Reaction.{Reaction};
 ghost use Rattle.smol_plan.specs.Pair.{IsOrdered};
@@ -7,9 +7,11 @@ ghost use Rattle.smol_meaning.specs.Encounters.{candidates_of, encounters_of_two
 ghost use Rattle.smol_meaning.specs.Events.{is_free};
 ghost use Rattle.smol_pairs.specs.Moved.{AreMoved, IsAmong};
 ghost use Rattle.smol_pairs.specs.Ranked.{IsRanked};
+ghost use Rattle.smol_pairs.specs.Reach.{reach_of};
 
 use crate::meeting::may_react;
 use crate::ranked::Ranked;
+use crate::reach::{is_out_of_reach, reach_of};
 use smol_plan::Pair;
 use smol_streams::Streams;
 use smol_types::{Config, Mol, Reaction};
@@ -65,8 +67,33 @@ fn add_with(
         ++ map pair_of (encounters_with config.now streams.old k a.now.rank a.now.mol (a.now.rank + 1) (drop (a.now.rank + 1) mols.now))) }
     ensures seed { streams.new ≡ streams.old }
 {
+    match reach_of(config, a.mol.species) {
+        Some(reach) => add_within(config, streams, a, reach, mols, free, k, pairs),
+        None => Ok(()),
+    }
+}
+
+// Adds the pairs that a molecule of this reach makes with those of higher rank. Most of them are out of its reach.
+fn add_within(
+    config: &Config,
+    streams: &mut Streams,
+    a: &Ranked,
+    reach: u64,
+    mols: &[Mol],
+    free: &[bool],
+    k: u32,
+    pairs: &mut Vec<Pair>,
+) -> Result<(), AllocError>
+    requires moved { AreMoved config.now mols.now }
+    requires free { free.now ≡ map (is_free config.now streams.old k) mols.now }
+    requires a { IsRanked config.now a.now }
+    requires reach { reach_of a.now.mol.species config.now.reactions ≡ Some reach }
+    ensures pairs { OnOk result (pairs.new.items ≡ pairs.old.items
+        ++ map pair_of (encounters_with config.now streams.old k a.now.rank a.now.mol (a.now.rank + 1) (drop (a.now.rank + 1) mols.now))) }
+    ensures seed { streams.new ≡ streams.old }
+{
     for rank in a.rank + 1..mols.len() {
-        if free[rank] {
+        if free[rank] && !is_out_of_reach(reach, &a.mol.place, &mols[rank].place) {
             let b = Ranked {
                 mol: mols[rank],
                 rank,

@@ -6,6 +6,7 @@ mod hidden;
 mod meeting;
 mod near;
 mod ranked;
+mod reach;
 #[cfg(test)]
 mod tests;
 

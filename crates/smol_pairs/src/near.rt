@@ -32,8 +32,8 @@ fn are_within(most: u64, a: &Place, b: &Place) -> bool
     are_within_on_each(most, a, b) && dist2(a, b) <= u128::from(most) * u128::from(most)
 }
 
-// Whether two places are at most this many ticks apart on each axis.
-fn are_within_on_each(most: u64, a: &Place, b: &Place) -> bool
+/// Whether two places are at most this many ticks apart on each axis.
+pub fn are_within_on_each(most: u64, a: &Place, b: &Place) -> bool
     requires a { IsPlaceWithin (2 ^ 57) a.now }
     requires b { IsPlaceWithin (2 ^ 57) b.now }
     ensures { result ≡ (are_within_on most a.now b.now 0

@@ -115,13 +115,21 @@ fn binding(alloc: Global, a: u16, b: u16, radius: u16) -> Result<Reaction, Alloc
     })
 }
 
-// Two species in a box with a panel that reflects both on both faces, and these reactions.
-fn box_with(alloc: Global, reactions: Items<Reaction>) -> Result<Config, AllocError>
-    requires few { length reactions ≤ 2 }
-    requires of { All (IsReaction 3 2) reactions }
-    requires two { All (λ (reaction : Reaction). length reaction.reactants ≡ 2) reactions }
+// Two A react within a length unit, and an A and a B by two reactions: within one, and within two.
+fn bindings(alloc: Global) -> Result<Items<Reaction>, AllocError>
+    ensures few { IfOk result (λ reactions. length reactions ≡ 3) }
+    ensures of { IfOk result (All (IsReaction 3 2)) }
+    ensures two { IfOk result (All (λ (reaction : Reaction). length reaction.reactants ≡ 2)) }
+{
+    let mut reactions = two(alloc, binding(alloc, 0, 0, 1)?, binding(alloc, 0, 1, 1)?)?;
+    reactions.push(binding(alloc, 1, 0, 2)?)?;
+    Ok(reactions)
+}
+
+// Two species in a box with a panel that reflects both on both faces, and the reactions.
+fn tested_box(alloc: Global) -> Result<Config, AllocError>
     ensures species { IfOk result (λ config. length config.species ≡ 2) }
-    ensures reactions { IfOk result (λ config. config.reactions ≡ reactions) }
+    ensures two { IfOk result (λ config. All (λ (reaction : Reaction). length reaction.reactants ≡ 2) config.reactions) }
 {
     let surface = Surface {
         front: two(alloc, Action::Reflect, Action::Reflect)?,
@@ -134,7 +142,7 @@ fn box_with(alloc: Global, reactions: Items<Reaction>) -> Result<Config, AllocEr
         surfaces: one(alloc, surface)?,
         panels: one(alloc, PANEL)?,
         compartments: Items::new(alloc),
-        reactions,
+        reactions: bindings(alloc)?,
         placings: Items::new(alloc),
         commands: Items::new(alloc),
         outputs: Items::new(alloc),
@@ -171,33 +179,124 @@ fn pair(a: u64, b: u64, reaction: u16) -> Pair {
     Pair { a, b, reaction }
 }
 
+// Four A at one place, an A and a B at another one, and an A and a B that the panel hides from each other.
+const TOGETHER: [Mol; 8] = [
+    Mol {
+        serial: 1,
+        species: 0,
+        place: Place([20_000_001, 20_000_001, 20_000_001]),
+    },
+    Mol {
+        serial: 2,
+        species: 0,
+        place: Place([20_000_001, 20_000_001, 20_000_001]),
+    },
+    Mol {
+        serial: 3,
+        species: 0,
+        place: Place([20_000_001, 20_000_001, 20_000_001]),
+    },
+    Mol {
+        serial: 4,
+        species: 0,
+        place: Place([20_000_001, 20_000_001, 20_000_001]),
+    },
+    Mol {
+        serial: 5,
+        species: 0,
+        place: Place([40_000_001, 20_000_001, 20_000_001]),
+    },
+    Mol {
+        serial: 6,
+        species: 1,
+        place: Place([40_000_001, 20_000_001, 20_000_001]),
+    },
+    Mol {
+        serial: 7,
+        species: 0,
+        place: Place([99_000_001, 60_000_001, 60_000_001]),
+    },
+    Mol {
+        serial: 8,
+        species: 1,
+        place: Place([101_000_001, 60_000_001, 60_000_001]),
+    },
+];
+
+// An A, and four B on each axis: a length unit away, the next place beyond, two units away, and the next place beyond.
+const APART: [Mol; 13] = [
+    Mol {
+        serial: 1,
+        species: 0,
+        place: Place([40_000_001, 40_000_001, 40_000_001]),
+    },
+    Mol {
+        serial: 2,
+        species: 1,
+        place: Place([42_000_001, 40_000_001, 40_000_001]),
+    },
+    Mol {
+        serial: 3,
+        species: 1,
+        place: Place([42_000_003, 40_000_001, 40_000_001]),
+    },
+    Mol {
+        serial: 4,
+        species: 1,
+        place: Place([44_000_001, 40_000_001, 40_000_001]),
+    },
+    Mol {
+        serial: 5,
+        species: 1,
+        place: Place([44_000_003, 40_000_001, 40_000_001]),
+    },
+    Mol {
+        serial: 6,
+        species: 1,
+        place: Place([40_000_001, 38_000_001, 40_000_001]),
+    },
+    Mol {
+        serial: 7,
+        species: 1,
+        place: Place([40_000_001, 37_999_999, 40_000_001]),
+    },
+    Mol {
+        serial: 8,
+        species: 1,
+        place: Place([40_000_001, 36_000_001, 40_000_001]),
+    },
+    Mol {
+        serial: 9,
+        species: 1,
+        place: Place([40_000_001, 35_999_999, 40_000_001]),
+    },
+    Mol {
+        serial: 10,
+        species: 1,
+        place: Place([40_000_001, 40_000_001, 42_000_001]),
+    },
+    Mol {
+        serial: 11,
+        species: 1,
+        place: Place([40_000_001, 40_000_001, 42_000_003]),
+    },
+    Mol {
+        serial: 12,
+        species: 1,
+        place: Place([40_000_001, 40_000_001, 44_000_001]),
+    },
+    Mol {
+        serial: 13,
+        species: 1,
+        place: Place([40_000_001, 40_000_001, 44_000_003]),
+    },
+];
+
 #[test]
-fn all_pairs_of_four_molecules_at_one_place(rt: HostRuntime) -> Result<(), Fail> {
+fn molecules_at_one_place_make_all_pairs(rt: HostRuntime) -> Result<(), Fail> {
     let alloc = rt.alloc();
-    let config = box_with(alloc, one(alloc, binding(alloc, 0, 0, 1)?)?)?;
-    let mols = [
-        Mol {
-            serial: 1,
-            species: 0,
-            place: Place([100_000_001, 100_000_001, 100_000_001]),
-        },
-        Mol {
-            serial: 2,
-            species: 0,
-            place: Place([100_000_001, 100_000_001, 100_000_001]),
-        },
-        Mol {
-            serial: 3,
-            species: 0,
-            place: Place([100_000_001, 100_000_001, 100_000_001]),
-        },
-        Mol {
-            serial: 4,
-            species: 0,
-            place: Place([100_000_001, 100_000_001, 100_000_001]),
-        },
-    ];
-    let pairs = found(&rt, alloc, &config, &mols)?;
+    let config = tested_box(alloc)?;
+    let pairs = found(&rt, alloc, &config, &TOGETHER)?;
     let want = [
         pair(1, 2, 0),
         pair(1, 3, 0),
@@ -205,78 +304,32 @@ fn all_pairs_of_four_molecules_at_one_place(rt: HostRuntime) -> Result<(), Fail>
         pair(2, 3, 0),
         pair(2, 4, 0),
         pair(3, 4, 0),
+        pair(5, 6, 1),
+        pair(5, 6, 2),
     ];
     assert_eq!(rt; pairs.as_slice(), want.as_slice());
     Ok(())
 }
 
 #[test]
-fn molecules_as_far_apart_as_the_radius_may_react(rt: HostRuntime) -> Result<(), Fail> {
+fn molecules_as_far_apart_as_a_radius_may_react(rt: HostRuntime) -> Result<(), Fail> {
     let alloc = rt.alloc();
-    let config = box_with(alloc, one(alloc, binding(alloc, 0, 1, 1)?)?)?;
-    let mols = [
-        Mol {
-            serial: 1,
-            species: 0,
-            place: Place([1, 100_000_001, 100_000_001]),
-        },
-        Mol {
-            serial: 2,
-            species: 1,
-            place: Place([2_000_001, 100_000_001, 100_000_001]),
-        },
-        Mol {
-            serial: 3,
-            species: 0,
-            place: Place([4_000_001, 100_000_001, 100_000_001]),
-        },
+    let config = tested_box(alloc)?;
+    let pairs = found(&rt, alloc, &config, &APART)?;
+    let want = [
+        pair(1, 2, 1),
+        pair(1, 2, 2),
+        pair(1, 3, 2),
+        pair(1, 4, 2),
+        pair(1, 6, 1),
+        pair(1, 6, 2),
+        pair(1, 7, 2),
+        pair(1, 8, 2),
+        pair(1, 10, 1),
+        pair(1, 10, 2),
+        pair(1, 11, 2),
+        pair(1, 12, 2),
     ];
-    let pairs = found(&rt, alloc, &config, &mols)?;
-    assert_eq!(rt; pairs.as_slice(), [pair(1, 2, 0), pair(2, 3, 0)].as_slice());
-    Ok(())
-}
-
-#[test]
-fn a_pair_is_listed_for_each_of_its_reactions(rt: HostRuntime) -> Result<(), Fail> {
-    let alloc = rt.alloc();
-    let config = box_with(
-        alloc,
-        two(alloc, binding(alloc, 0, 1, 1)?, binding(alloc, 1, 0, 1)?)?,
-    )?;
-    let mols = [
-        Mol {
-            serial: 1,
-            species: 0,
-            place: Place([100_000_001, 100_000_001, 100_000_001]),
-        },
-        Mol {
-            serial: 2,
-            species: 1,
-            place: Place([100_000_001, 100_000_001, 100_000_001]),
-        },
-    ];
-    let pairs = found(&rt, alloc, &config, &mols)?;
-    assert_eq!(rt; pairs.as_slice(), [pair(1, 2, 0), pair(1, 2, 1)].as_slice());
-    Ok(())
-}
-
-#[test]
-fn a_panel_hides_a_pair(rt: HostRuntime) -> Result<(), Fail> {
-    let alloc = rt.alloc();
-    let config = box_with(alloc, one(alloc, binding(alloc, 0, 1, 2)?)?)?;
-    let mols = [
-        Mol {
-            serial: 1,
-            species: 0,
-            place: Place([99_000_001, 100_000_001, 100_000_001]),
-        },
-        Mol {
-            serial: 2,
-            species: 1,
-            place: Place([101_000_001, 100_000_001, 100_000_001]),
-        },
-    ];
-    let pairs = found(&rt, alloc, &config, &mols)?;
-    assert_eq!(rt; pairs.len(), 0);
+    assert_eq!(rt; pairs.as_slice(), want.as_slice());
     Ok(())
 }

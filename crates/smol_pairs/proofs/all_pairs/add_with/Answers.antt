@@ -1,54 +1,11 @@
-use Rattle.std.proofs.Common.{◌≡◌, ◌+◌, ℕ, [], ◌++◌, get_or, drop, map, sym, subst, ap, ◌∙◌, Vec, Global}
-use Rattle.smol_types.specs.declared.state.Mol.{Mol}
-use Rattle.smol_plan.specs.declared.pair.Pair.{Pair}
-use Rattle.smol_meaning.specs.Encounters.{encounters_of_two, encounters_with, pair_of}
-use Rattle.smol_meaning.specs.Events.{is_free}
-use Rattle.smol_pairs.proofs.Meetings.{free_there, pairs_passed, pairs_taken, with_next}
+use Rattle.std.proofs.Common.{◌+◌, ◌++◌, List, drop, map, sym, ap, ◌∙◌, append-nil}
+use Rattle.smol_meaning.specs.Encounters.{Encounter, pair_of}
+use Rattle.smol_pairs.proofs.Meetings.{none_with}
 use Rattle.smol_pairs.proofs.all_pairs.add_with.Goals as goal
-use Rattle.smol_pairs.proofs.all_pairs.add_with.Goals.{then-free-rank+in_ok-add_of_two, else-free-rank}
 
-pub loop-rank-preserved : goal.loop-rank-preserved
-loop-rank-preserved c =
-    let draft = c.args.config.now in
-    let seed = c.args.streams.now in
-    let k = c.args.k in
+pub returns-in-None-clause-pairs : goal.returns-in-None-clause-pairs
+returns-in-None-clause-pairs c =
     let a = c.args.a.now in
-    let mols = c.args.mols.now in
-    let rank = c.loop-rank.rank in
-    let none : Mol = record { serial = 0; species = 0; place = record { 0 = [] } } in
-    let b = get_or mols rank none in
-    let so_far = c.loop-rank.pairs.items in
-    let left = λ (s : ℕ) (r : ℕ). encounters_with draft s k a.rank a.mol r (drop r mols) in
-    let whole = λ (s : ℕ). c.args.pairs.now.items ++ map pair_of (left s (a.rank + 1)) in
-    let same = c.loop-rank.invariant.seed in
-    let kept = subst (λ (s : ℕ). so_far ++ map pair_of (left s rank) ≡ whole s) same c.loop-rank.invariant.pairs in
-    let here = encounters_of_two draft seed k a.rank a.mol rank b 0 draft.reactions in
-    let next = with_next draft seed k a.rank a.mol rank mols none c.loop-rank-test.true in
-    let free = free_there draft seed k c.args.free.now mols rank none c.requires.free c.loop-rank-test.true in
-    elim c.if-free-rank.branch [
-      | then-free-rank+in_ok-add_of_two w ↦
-          let seeds = w.streams-is ∙ w.add_of_two.ensures.seed ∙ same in
-          let items = ap (λ (pairs : Vec Pair Global). pairs.items) w.pairs-is in
-          let added = subst (λ (s : ℕ). w.add_of_two.new.pairs.items ≡ so_far ++ map pair_of (encounters_of_two draft s k a.rank a.mol rank b 0 draft.reactions))
-          same w.in_ok-add_of_two.ensures.pairs in
-          record {
-            pairs =
-                (λ i. items i ++ map pair_of (left (seeds i) (rank + 1)))
-                ∙ pairs_taken here (left seed (rank + 1)) (left seed rank) (is_free draft seed k b) so_far w.add_of_two.new.pairs.items next
-                (sym free ∙ w.if-free-rank.true) added
-                ∙ kept
-                ∙ ap whole (sym seeds);
-            seed = seeds;
-          }
-      | else-free-rank w ↦
-          let seeds = w.streams-is ∙ same in
-          let items = ap (λ (pairs : Vec Pair Global). pairs.items) w.pairs-is in
-          record {
-            pairs =
-                (λ i. items i ++ map pair_of (left (seeds i) (rank + 1)))
-                ∙ pairs_passed here (left seed (rank + 1)) (left seed rank) (is_free draft seed k b) so_far next (sym free ∙ w.if-free-rank.false)
-                ∙ kept
-                ∙ ap whole (sym seeds);
-            seed = seeds;
-          }
-    ]
+    let none = none_with c.args.config.now c.args.streams.now c.args.k a.rank a.mol (a.rank + 1) (drop (a.rank + 1) c.args.mols.now)
+    (sym c.reach_of.ensures ∙ c.in-None.is) in
+    sym (ap (λ (encounters : List Encounter). c.args.pairs.now.items ++ map pair_of encounters) none ∙ append-nil c.args.pairs.now.items)

@@ -1,7 +1,6 @@
 use Rattle.std.proofs.Common.{◌+◌, ap, ◌∙◌, List, length}
 use Rattle.smol_types.specs.declared.surface.Panel.{Panel}
 use Rattle.smol_types.specs.Actions.{action_of}
-use Rattle.smol_meaning.specs.Seen.{arrival_face}
 use Rattle.smol_pairs.proofs.Passing.{wall_jumps}
 use Rattle.smol_pairs.proofs.hidden.wall_passes.Goals as goal
 

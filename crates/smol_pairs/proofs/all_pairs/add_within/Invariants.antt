@@ -1,6 +1,6 @@
 use Rattle.std.proofs.Common.{◌≡◌, ◌+◌, ◌++◌, drop, map}
 use Rattle.smol_meaning.specs.Encounters.{encounters_with, pair_of}
-use Rattle.smol_pairs.proofs.all_pairs.add_with.Given as goal
+use Rattle.smol_pairs.proofs.all_pairs.add_within.Given as goal
 
 -- the pairs so far and those with the molecules that are left
 abbrev pub invariant-loop-rank : goal.invariant-loop-rank
