@@ -48,7 +48,7 @@ size_above x low high = omega (arith, ints)
 size_below : (x : ℤ) → negsuc 999999999999 ≤ℤ x → x ≤ℤ pos most_micros → unsigned_abs (pos 2 *ℤ x -ℤ pos 1) ≤ farthest + 1
 size_below x low high = omega (arith, ints)
 
--- ticks_of by whether the place is on the high wall
+-- ticks by whether the place is on the high wall
 chosen_ticks : (on : Bool) (x : ℤ) → negsuc 999999999999 ≤ℤ x → x ≤ℤ pos most_micros
     → (unsigned_abs (if on then pos 2 *ℤ x -ℤ pos 1 else pos 2 *ℤ x +ℤ pos 1) % 2 ≡ 1) × (unsigned_abs (if on then pos 2 *ℤ x -ℤ pos 1 else pos 2 *ℤ x +ℤ pos 1) ≤ farthest + 1)
 chosen_ticks true x low high = (odd_below x, size_below x low high)

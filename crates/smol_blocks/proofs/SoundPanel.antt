@@ -28,7 +28,7 @@ record IsReach (dims across axis : ℕ) (corner extent : ℤ) : Type 0 where
   ordered : ticks_of corner ≤ℤ ticks_of (corner +ℤ extent)
   flat : across ≡ axis → ticks_of corner ≡ ticks_of (corner +ℤ extent)
 
--- ticks_of of a place of whole micros are even
+-- ticks of a place of whole micros are even
 ticks_even : (x : ℤ) → IsEven (ticks_of x)
 ticks_even x = omega (arith, ints)
 

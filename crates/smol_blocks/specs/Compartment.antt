@@ -42,7 +42,7 @@ bound_in surfaces before line =
     (with_value (number_in surfaces (word_at line 1)) (λ surface.
     passing (unless (nat_lt (length (surfaces_named before)) most_bounds) TooMany ∷ []) (Ok surface)))
 
--- a coordinate of a point in ticks_of: as a molecule would stand there, and also where no molecule may
+-- a coordinate of a point in ticks: as a molecule would stand there, and also where no molecule may
 abbrev pub point_word : Bounds → List ℕ → Result ℤ Kind
 point_word bounds word = with_value (micros_in word) (λ x. Ok (ticks_within bounds x))
 

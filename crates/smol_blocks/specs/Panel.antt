@@ -50,7 +50,7 @@ extent_in dims across axis corner line =
     then (if axis == across then Ok (pos 0) else edge_in corner (word_at line (edge_place dims across axis)))
     else Ok (pos 1)
 
--- a place of m micros stands at 2m ticks_of
+-- a place of m micros stands at 2m ticks
 abbrev pub ticks_of : ℤ → ℤ
 ticks_of micros = pos 2 *ℤ micros
 

@@ -35,7 +35,7 @@ pub fn bound_in(
     Ok(surface)
 }
 
-// A coordinate of a point in ticks_of.
+// A coordinate of a point in ticks.
 fn point_word(bounds: &Bounds, word: &[u8]) -> Result<i64, Kind>
     ensures { result ≡ point_word bounds.now word.now }
 {

@@ -103,7 +103,7 @@ fn extent_in(
     edge_in(corner, word_at(line, edge_place(dims, across, axis)))
 }
 
-// A place of m micros stands at 2m ticks_of.
+// A place of m micros stands at 2m ticks.
 fn ticks_of(micros: i64) -> i64
     requires { unsigned_abs micros ≤ most_micros }
     ensures { result ≡ ticks_of micros }
@@ -111,7 +111,7 @@ fn ticks_of(micros: i64) -> i64
     2 * micros
 }
 
-// Where an edge ends, in ticks_of.
+// Where an edge ends, in ticks.
 fn end(corner: i64, extent: i64) -> i64
     requires corner { unsigned_abs corner ≤ most_micros }
     requires extent { unsigned_abs extent ≤ 2000000000000 }

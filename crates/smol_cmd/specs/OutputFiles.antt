@@ -7,7 +7,7 @@ use Rattle.smol_types.specs.declared.fault.Kind.{Kind}
 use Rattle.smol_types.specs.declared.fault.Kind.TheVariants.{NotInProfile, RepeatedName, TooMany, WrongWordCount}
 use Rattle.smol_types.specs.Limits.{most_outputs}
 use Rattle.smol_line.specs.Checks.{unless, passing}
-use Rattle.smol_line.specs.Names.{is_named, first_of, names_fault}
+use Rattle.smol_line.specs.Names.{is_named, first_fault, names_fault}
 
 -- a word for an outlet that there is without a file
 abbrev pub is_standard : List ℕ → Bool
@@ -20,7 +20,7 @@ is_plain byte = nat_lt byte 128
 -- the fault of a name of a file behind these names, which may be any word but one of them
 abbrev pub output_fault : List (List ℕ) → List ℕ → Option Kind
 output_fault outputs name =
-    first_of (unless (list_all is_plain name) NotInProfile) (unless (not (is_named outputs name)) RepeatedName)
+    first_fault (unless (list_all is_plain name) NotInProfile) (unless (not (is_named outputs name)) RepeatedName)
 
 -- the words that name files
 abbrev pub file_names : List (List ℕ) → List (List ℕ)

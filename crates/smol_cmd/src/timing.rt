@@ -1,5 +1,5 @@
 //! `WHEN ...`: when a command is due.
-ghost use Rattle.std.specs.Prelude.{◌≡◌, ◌+◌, ◌≤◌, ◌<◌, IfOk};
+ghost use Rattle.std.specs.Prelude.{◌≡◌, ◌+◌, ◌≤◌, IfOk};
 ghost use Rattle.smol_cmd.specs.When.{due_in, step_in, stride_in, timing_in, timing_words, when_in};
 
 use crate::times::{interval_in, time_in};

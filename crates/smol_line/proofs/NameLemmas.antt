@@ -6,7 +6,7 @@ use Rattle.std.specs.Str.{IsAscii, IsUtf8}
 use Rattle.std.proofs.lemmas.Str.{IsUtf8-from_ascii}
 use Rattle.std.proofs.lemmas.Str.Ascii.{IsAscii-nil, IsAscii-cons}
 use Rattle.smol_types.specs.declared.fault.Kind.{Kind}
-use Rattle.smol_line.specs.Names.{is_letter, continues_name, is_reserved, is_name, first_of, names_fault}
+use Rattle.smol_line.specs.Names.{is_letter, continues_name, is_reserved, is_name, first_fault, names_fault}
 
 and_left : (a b : Bool) → (a && b) ≡ true → a ≡ true
 and_left true b both = refl
@@ -44,8 +44,8 @@ name_is_text (byte ∷ bytes) name =
 
 -- a name without a fault leaves the others to be tested
 pub names_fault-next : (fault : List (List ℕ) → List ℕ → Option Kind) (known names : List (List ℕ)) (name : List ℕ) (rest : List (List ℕ)) → names ≡ name ∷ rest → fault known name ≡ None → names_fault fault known names ≡ names_fault fault (known ++ name ∷ []) rest
-names_fault-next fault known names name rest is fine = ap (names_fault fault known) is ∙ ap (λ found. first_of found (names_fault fault (known ++ name ∷ []) rest)) fine
+names_fault-next fault known names name rest is fine = ap (names_fault fault known) is ∙ ap (λ found. first_fault found (names_fault fault (known ++ name ∷ []) rest)) fine
 
 -- and one with a fault has the first
 pub names_fault-found : (fault : List (List ℕ) → List ℕ → Option Kind) (known names : List (List ℕ)) (name : List ℕ) (rest : List (List ℕ)) (kind : Kind) → names ≡ name ∷ rest → fault known name ≡ Some kind → names_fault fault known names ≡ Some kind
-names_fault-found fault known names name rest kind is fails = ap (names_fault fault known) is ∙ ap (λ found. first_of found (names_fault fault (known ++ name ∷ []) rest)) fails
+names_fault-found fault known names name rest kind is fails = ap (names_fault fault known) is ∙ ap (λ found. first_fault found (names_fault fault (known ++ name ∷ []) rest)) fails

@@ -33,11 +33,11 @@ abbrev pub new_name_in : List (List ℕ) → List ℕ → Result (List ℕ) Kind
 new_name_in names word = passing (unless (is_name word) NotInProfile ∷ unless (not (is_named names word)) RepeatedName ∷ []) (Ok word)
 
 -- the first of two faults
-abbrev pub first_of : Option Kind → Option Kind → Option Kind
-first_of None later = later
-first_of (Some kind) later = Some kind
+abbrev pub first_fault : Option Kind → Option Kind → Option Kind
+first_fault None later = later
+first_fault (Some kind) later = Some kind
 
 -- the first fault of further names, by the fault that a name has behind those that are known
 abbrev pub names_fault : (List (List ℕ) → List ℕ → Option Kind) → List (List ℕ) → List (List ℕ) → Option Kind
 names_fault fault known [] = None
-names_fault fault known (name ∷ names) = first_of (fault known name) (names_fault fault (known ++ name ∷ []) names)
+names_fault fault known (name ∷ names) = first_fault (fault known name) (names_fault fault (known ++ name ∷ []) names)

@@ -1,4 +1,4 @@
-//! What a reader needs of a line: its words, and what a word means as a number, a name, a species, an axis, a length or a coordinate.
+//! What a reader needs of a line: its words, and what a word means as a number, a name, a species, an axis, a length, a coordinate or a probability.
 #![tactic(auto)]
 
 mod axes;

@@ -1,5 +1,5 @@
 //! The steps of a run, with the commands that are due between them.
-ghost use Rattle.std.specs.Prelude.{◌≡◌, ◌+◌, ◌*◌, ◌-◌, ◌≤◌, ◌<◌, [], IsErrOf, OnOk, length, replicate};
+ghost use Rattle.std.specs.Prelude.{◌≡◌, ◌+◌, ◌-◌, ◌≤◌, [], IsErrOf, OnOk, length, replicate};
 ghost use Rattle.smol_edge.specs.Faults.{Tells};
 ghost use Rattle.smol_types.specs.Limits.{last_serial, most_steps};
 ghost use Rattle.smol_types.specs.Sound.{IsSound};

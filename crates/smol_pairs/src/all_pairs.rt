@@ -1,5 +1,5 @@
 //! The pairs that may react, looked for among all pairs of molecules.
-ghost use Rattle.std.specs.Prelude.{◌≡◌, ◌+◌, ◌<◌, ◌≤◌, ◌++◌, All, IfOk, OnOk, Some, is_some, map, drop};
+ghost use Rattle.std.specs.Prelude.{◌≡◌, ◌+◌, ◌≤◌, ◌++◌, All, IfOk, OnOk, Some, is_some, map, drop};
 ghost use Rattle.std.specs.List.{list_any};
 ghost use Rattle.smol_types.specs.declared.reaction.Reaction.{Reaction};
 ghost use Rattle.smol_plan.specs.Pair.{IsOrdered};

@@ -179,7 +179,7 @@ fn pair(a: u64, b: u64, reaction: u16) -> Pair {
     Pair { a, b, reaction }
 }
 
-// Four A at one place, an A and a B at another one, and an A and a B that the panel hides from each other.
+// Four A at one place, a B and an A at another one, and an A and a B that the panel hides from each other.
 const TOGETHER: [Mol; 8] = [
     Mol {
         serial: 1,
@@ -203,12 +203,12 @@ const TOGETHER: [Mol; 8] = [
     },
     Mol {
         serial: 5,
-        species: 0,
+        species: 1,
         place: Place([40_000_001, 20_000_001, 20_000_001]),
     },
     Mol {
         serial: 6,
-        species: 1,
+        species: 0,
         place: Place([40_000_001, 20_000_001, 20_000_001]),
     },
     Mol {

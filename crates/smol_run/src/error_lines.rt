@@ -1,5 +1,5 @@
 //! The lines on standard error that end a run.
-ghost use Rattle.std.specs.Prelude.{◌≡◌, ◌<◌, ◌+◌, ◌++◌, ◌∷◌, [], codes, decimal, IfOk, IfErr, OnOk, OnErr};
+ghost use Rattle.std.specs.Prelude.{◌≡◌, ◌++◌, ◌∷◌, [], codes, decimal, IfOk, IfErr, OnOk, OnErr};
 ghost use Rattle.smol_edge.specs.Faults.{Tells};
 ghost use Rattle.smol_edge.specs.Outlets.{Appends, AppendsFrontOf};
 ghost use Rattle.smol_run.specs.Ends.{CountsLoss};

@@ -1,7 +1,7 @@
 mod Deciding
 mod Jumps
 mod Meets
-mod Reach
+mod Span
 mod Scan
 mod Ticks
 mod Walking

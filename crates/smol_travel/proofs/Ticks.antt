@@ -41,7 +41,7 @@ ticks_there start way goal gap num is size (inl same) =
 ticks_there start way goal gap num is size (inr same) =
     let g = below_nothing gap same.1 in rw same.0 (omega (arith, ints))
 
--- what some ticks reach has a gap that leads the same way, and is their number
+-- what some ticks span has a gap that leads the same way, and is their number
 pub ticks_only : (start way goal gap : ℤ) (n : ℕ) → gap ≡ goal -ℤ start → 0 < n → coordinate_from start way n ≡ goal → IsSameWay gap way × (unsigned_abs gap ≡ n)
 ticks_only start way goal gap n is some there = go (cases_Bool (int_lt (pos 0) way))
   where

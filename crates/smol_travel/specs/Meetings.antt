@@ -72,7 +72,7 @@ abbrev pub IsBetween : ℤ → ℤ → ℤ → Type 0
 IsBetween low high z = (low <ℤ z) × (z <ℤ high)
 
 -- at each moment of the move the true coordinate on the moment's axis is strictly between these, as long as the fold stays
-pub record IsReach (from : Place) (by : Step3) (f : Fold) (low high : List ℤ) : Type 0 where
+pub record IsSpan (from : Place) (by : Step3) (f : Fold) (low high : List ℤ) : Type 0 where
   pub between : (m : Moment) → IsMoment from by m
       → IsBetween (on_axis low m.axis) (on_axis high m.axis) (plane_at from by f m)
 

@@ -6,7 +6,7 @@ ghost use Rattle.smol_geom.specs.Moments.{IsMoment, is_before};
 ghost use Rattle.smol_types.specs.declared.wall.Wall.{Wall};
 ghost use Rattle.smol_meaning.specs.Folds.{IsPanelRect, IsWallPlane, IsSmallFold};
 ghost use Rattle.smol_meaning.specs.Plates.{Rectangle, is_met, plane_at};
-ghost use Rattle.smol_travel.specs.Meetings.{IsBetween, ComesLater, IsNext, IsReach, sooner_of, earliest_of, rect_sheets, wall_sheet, wall_sheets, sheets_of};
+ghost use Rattle.smol_travel.specs.Meetings.{IsBetween, ComesLater, IsNext, IsSpan, sooner_of, earliest_of, rect_sheets, wall_sheet, wall_sheets, sheets_of};
 
 use crate::Panels;
 use crate::coordinates::{coordinate_from, ends_on, folded, ticks_to, unfolded};
@@ -14,9 +14,9 @@ use smol_geom::{Fold, Moment, Place, Rect, Step3, holds_at, moment_before};
 use smol_types::Wall;
 
 // The coordinates between which a move is on each axis, as long as the fold stays. They are found once for a scan: of the many
-// panels and walls that are out of reach, nothing but the plane is looked at then.
+// panels and walls that are outside it, nothing but the plane is looked at then.
 #[derive(Clone, Copy)]
-struct Reach {
+struct Span {
     low: [i64; 3],
     high: [i64; 3],
 }
@@ -65,10 +65,10 @@ fn next_of_rects(
     requires fold { IsSmallFold fold.now }
     ensures { IsNext (rect_sheets rects.now) from.now by.now fold.now last.now result }
 {
-    let reach = reach_of(from, by, fold);
+    let span = span_of(from, by, fold);
     let mut next: Option<Moment> = None;
     for rect in rects {
-        if let Some(met) = rect_meeting_in_reach(rect, &reach, from, by, fold, last) {
+        if let Some(met) = rect_meeting_in_span(rect, &span, from, by, fold, last) {
             next = Some(earlier(next, met));
         }
     }
@@ -89,10 +89,10 @@ fn next_of_walls(
     requires fold { IsSmallFold fold.now }
     ensures { IsNext (wall_sheets walls.now) from.now by.now fold.now last.now result }
 {
-    let reach = reach_of(from, by, fold);
+    let span = span_of(from, by, fold);
     let mut next: Option<Moment> = None;
     for wall in walls {
-        if let Some(met) = wall_meeting_in_reach(wall, &reach, from, by, fold, last) {
+        if let Some(met) = wall_meeting_in_span(wall, &span, from, by, fold, last) {
             next = Some(earlier(next, met));
         }
     }
@@ -133,43 +133,43 @@ fn comes_before(a: &Moment, b: &Moment) -> bool
 }
 
 // The coordinates that the fold carries the move's ends to.
-fn reach_of(from: &Place, by: &Step3, fold: &Fold) -> Reach
+fn span_of(from: &Place, by: &Step3, fold: &Fold) -> Span
     requires from { IsWithin (2 ^ 57) from.now.0 }
     requires by { IsWithin (2 ^ 34) by.now.0 }
     requires fold { IsSmallFold fold.now }
-    ensures { IsReach from.now by.now fold.now result.low result.high }
+    ensures { IsSpan from.now by.now fold.now result.low result.high }
 {
     let x = ends_on(fold.sign[0], from.0[0], by.0[0], fold.shift[0]);
     let y = ends_on(fold.sign[1], from.0[1], by.0[1], fold.shift[1]);
     let z = ends_on(fold.sign[2], from.0[2], by.0[2], fold.shift[2]);
-    Reach {
+    Span {
         low: [x.0, y.0, z.0],
         high: [x.1, y.1, z.1],
     }
 }
 
-// Whether a plane across an axis is within reach.
-fn is_reached(reach: &Reach, axis: u8, plane: i64) -> bool
+// Whether a plane across an axis is within the span.
+fn is_in_span(span: &Span, axis: u8, plane: i64) -> bool
     requires { axis < 3 }
     ensures { IsTrue result
-        ↔ IsBetween (on_axis reach.now.low axis) (on_axis reach.now.high axis) plane }
+        ↔ IsBetween (on_axis span.now.low axis) (on_axis span.now.high axis) plane }
 {
-    let low = reach.low[axis as usize];
-    let high = reach.high[axis as usize];
+    let low = span.low[axis as usize];
+    let high = span.high[axis as usize];
     low < plane && plane < high
 }
 
-// The meeting with a rectangle, where it is within reach. One out of reach isn't met.
-fn rect_meeting_in_reach(
+// The meeting with a rectangle, where it is within the span. One outside isn't met.
+fn rect_meeting_in_span(
     rect: &Rect,
-    reach: &Reach,
+    span: &Span,
     from: &Place,
     by: &Step3,
     fold: &Fold,
     last: &Moment,
 ) -> Option<Moment>
     requires rect { IsPanelRect rect.now }
-    requires reach { IsReach from.now by.now fold.now reach.now.low reach.now.high }
+    requires span { IsSpan from.now by.now fold.now span.now.low span.now.high }
     requires from { IsWithin (2 ^ 57) from.now.0 }
     requires by { IsWithin (2 ^ 34) by.now.0 }
     requires fold { IsSmallFold fold.now }
@@ -177,24 +177,24 @@ fn rect_meeting_in_reach(
     ensures only { (m : Moment) → ComesLater from.now by.now last.now m →
         is_met from.now by.now fold.now m (Rectangle rect.now) ≡ true → result ≡ Some m }
 {
-    if is_reached(reach, rect.axis, rect.low[rect.axis as usize]) {
+    if is_in_span(span, rect.axis, rect.low[rect.axis as usize]) {
         rect_meeting(rect, from, by, fold, last)
     } else {
         None
     }
 }
 
-// The meeting with a wall, where it is within reach. One out of reach isn't met.
-fn wall_meeting_in_reach(
+// The meeting with a wall, where it is within the span. One outside isn't met.
+fn wall_meeting_in_span(
     wall: &Wall,
-    reach: &Reach,
+    span: &Span,
     from: &Place,
     by: &Step3,
     fold: &Fold,
     last: &Moment,
 ) -> Option<Moment>
     requires wall { IsWallPlane wall.now.axis wall.now.plane }
-    requires reach { IsReach from.now by.now fold.now reach.now.low reach.now.high }
+    requires span { IsSpan from.now by.now fold.now span.now.low span.now.high }
     requires from { IsWithin (2 ^ 57) from.now.0 }
     requires by { IsWithin (2 ^ 34) by.now.0 }
     requires fold { IsSmallFold fold.now }
@@ -202,7 +202,7 @@ fn wall_meeting_in_reach(
     ensures only { (m : Moment) → ComesLater from.now by.now last.now m →
         is_met from.now by.now fold.now m (wall_sheet wall.now) ≡ true → result ≡ Some m }
 {
-    if is_reached(reach, wall.axis, wall.plane) {
+    if is_in_span(span, wall.axis, wall.plane) {
         wall_meeting(wall, from, by, fold, last)
     } else {
         None

@@ -1,6 +1,6 @@
 use Rattle.std.proofs.Common.{FitsSigned, w64, arith}
 use Rattle.std.proofs.lemmas.Int.{ints, to_z-of_z}
-use Rattle.smol_travel.proofs.Reach.{ends_up, ends_down}
+use Rattle.smol_travel.proofs.Span.{ends_up, ends_down}
 use Rattle.smol_travel.proofs.coordinates.ends_on.Goals as goal
 
 pub returns-then-first-last : goal.returns-then-first-last

@@ -12,7 +12,7 @@ loop-rect-init c = record { none = λ m h k d l. absurd (omega arith) }
 pub loop-rect-preserved : goal.loop-rect-preserved
 loop-rect-preserved c =
     let l = subst (λ n. c.loop-rect.rect-index < n) (sym (length-map c.args.rects.now Rectangle)) c.loop-rect-test.true in
-    elim c.match-rect_meeting_in_reach.branch [
+    elim c.match-rect_meeting_in_span.branch [
       | in-Some w ↦ rw (w.next-is, w.earlier.ensures)
           (next_met (rect_sheets c.args.rects.now) c.args.from.now c.args.by.now c.args.fold.now c.args.last.now c.loop-rect.rect-index _ _ l
           (get_or-map Rectangle c.args.rects.now c.loop-rect.rect-index _ (Plane 0 (pos 0)) c.loop-rect-test.true)
@@ -22,7 +22,7 @@ loop-rect-preserved c =
           (next_same (rect_sheets c.args.rects.now) c.args.from.now c.args.by.now c.args.fold.now c.args.last.now c.loop-rect.rect-index _ _ l
           (get_or-map Rectangle c.args.rects.now c.loop-rect.rect-index _ (Plane 0 (pos 0)) c.loop-rect-test.true)
           c.loop-rect.next c.loop-rect.invariant
-          (λ m h e. w.in_default.not-Some m (c.rect_meeting_in_reach.ensures.only m h e)))
+          (λ m h e. w.in_default.not-Some m (c.rect_meeting_in_span.ensures.only m h e)))
     ]
 
 pub returns : goal.returns

@@ -12,7 +12,7 @@ loop-wall-init c = record { none = λ m h k d l. absurd (omega arith) }
 pub loop-wall-preserved : goal.loop-wall-preserved
 loop-wall-preserved c =
     let l = subst (λ n. c.loop-wall.wall-index < n) (sym (length-map c.args.walls.now wall_sheet)) c.loop-wall-test.true in
-    elim c.match-wall_meeting_in_reach.branch [
+    elim c.match-wall_meeting_in_span.branch [
       | in-Some w ↦ rw (w.next-is, w.earlier.ensures)
           (next_met (wall_sheets c.args.walls.now) c.args.from.now c.args.by.now c.args.fold.now c.args.last.now c.loop-wall.wall-index _ _ l
           (get_or-map wall_sheet c.args.walls.now c.loop-wall.wall-index _ (Plane 0 (pos 0)) c.loop-wall-test.true)
@@ -22,7 +22,7 @@ loop-wall-preserved c =
           (next_same (wall_sheets c.args.walls.now) c.args.from.now c.args.by.now c.args.fold.now c.args.last.now c.loop-wall.wall-index _ _ l
           (get_or-map wall_sheet c.args.walls.now c.loop-wall.wall-index _ (Plane 0 (pos 0)) c.loop-wall-test.true)
           c.loop-wall.next c.loop-wall.invariant
-          (λ m h e. w.in_default.not-Some m (c.wall_meeting_in_reach.ensures.only m h e)))
+          (λ m h e. w.in_default.not-Some m (c.wall_meeting_in_span.ensures.only m h e)))
     ]
 
 pub returns : goal.returns

@@ -3,9 +3,9 @@ use Rattle.std.specs.Int.{w8}
 use Rattle.std.proofs.lemmas.Int.{to_z-of_z}
 use Rattle.smol_geom.specs.Axes.{on_axis}
 use Rattle.smol_geom.proofs.Sizes.{small_fits}
-use Rattle.smol_travel.proofs.Reach.{reach_from}
+use Rattle.smol_travel.proofs.Span.{span_from}
 use Rattle.smol_travel.proofs.Ticks.{sign_fits}
-use Rattle.smol_travel.proofs.meeting.reach_of.Goals as goal
+use Rattle.smol_travel.proofs.meeting.span_of.Goals as goal
 
 pub returns : goal.returns
 returns c =
@@ -31,4 +31,4 @@ returns c =
     let u2 : FitsSigned w64 c.ends_on-z.result.1 = search rules in
     let e2 = simp (to_z-of_z, s2, a2, d2, h2) at c.ends_on-z.ensures in
     simp (to_z-of_z, l0, u0, l1, u1, l2, u2)
-    (reach_from c.args.from.now c.args.by.now c.args.fold.now _ _ (e0, e1, e2))
+    (span_from c.args.from.now c.args.by.now c.args.fold.now _ _ (e0, e1, e2))
