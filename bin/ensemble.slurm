@@ -2,7 +2,7 @@
 # An array of runs on a cluster with Slurm, a seed a task:
 #   sbatch --array=1-1000 bin/ensemble.slurm FILE [FOLDER]
 # runs FILE with the task's number as its seed in FOLDER/SEED (FILE.runs/SEED where no folder is given). Install the program first
-# (bin/install ~/bin) where the nodes have no Rattle kit; SMOL names it then.
+# (bin/install ~/bin) where the nodes have no Rattle kit; SMOL names it then, by its whole path.
 #SBATCH --job-name=smol
 #SBATCH --ntasks=1
 #SBATCH --cpus-per-task=1
