@@ -1,6 +1,6 @@
 use Rattle.smol_plan.specs.contracts.pair.SideOrd.TheImpl as by_side
 use Rattle.smol_plan.proofs.EntryLemmas.{IsRising-from_sorted}
-use Rattle.smol_plan.proofs.plan.sort_entries.Goals as goal
+use Rattle.smol_plan.proofs.plan.sort_together.Goals as goal
 
 pub returns-clause-rising : goal.returns-clause-rising
 returns-clause-rising g c =
