@@ -220,16 +220,14 @@ pub commands_are_few : (known : Known) (count : ℕ) (line : Stated) (command : 
 commands_are_few known count line command is = let given = given_is known count line command is in given.room
 
 -- more species, compartments and files keep commands sound
-species_stay : (least old new : ℕ) (who : List ℕ) → old ≤ new → AreSpecies least old who → AreSpecies least new who
-species_stay least old new [] more are = tt
-species_stay least old new (species ∷ who) more are =
-    let below = are.1 in
-    (are.0, omega arith, species_stay (species + 1) old new who more are.2)
+species_stay : (old new : ℕ) (who : List ℕ) → old ≤ new → AreSpecies old who → AreSpecies new who
+species_stay old new who more are =
+    All-weaker (λ (species : ℕ). species < old) (λ (species : ℕ). species < new) (λ species below. omega (arith, more, below)) who are
 
 test_stays : (old new : ℕ) → old ≤ new → (one : Test) → IsTest old one → IsTest new one
-test_stays old new more (test.IfNo who) is = species_stay 0 old new who more is
-test_stays old new more (test.IfLess who n) is = (species_stay 0 old new who more is.0, is.1)
-test_stays old new more (test.IfMore who n) is = (species_stay 0 old new who more is.0, is.1)
+test_stays old new more (test.IfNo who) is = species_stay old new who more is
+test_stays old new more (test.IfLess who n) is = (species_stay old new who more is.0, is.1)
+test_stays old new more (test.IfMore who n) is = (species_stay old new who more is.0, is.1)
 
 act_stays : (a b c a_new b_new c_new : ℕ) (walls : List Wall) (one : Act) → a ≤ a_new → b ≤ b_new → c ≤ c_new → IsAct a b c walls one → IsAct a_new b_new c_new walls one
 act_stays a b c a_new b_new c_new walls (act.CountHeader out) more_a more_b more_c is = omega arith
@@ -241,13 +239,13 @@ act_stays a b c a_new b_new c_new walls (act.CountIn compartment out) more_a mor
 act_stays a b c a_new b_new c_new walls (act.List out) more_a more_b more_c is = omega arith
 act_stays a b c a_new b_new c_new walls (act.Positions who out) more_a more_b more_c is =
     let second = is.1 in
-    (species_stay 0 a a_new who more_a is.0, omega arith)
+    (species_stay a a_new who more_a is.0, omega arith)
 act_stays a b c a_new b_new c_new walls (act.Echo out text) more_a more_b more_c is = omega arith
-act_stays a b c a_new b_new c_new walls (act.Kill who) more_a more_b more_c is = species_stay 0 a a_new who more_a is
-act_stays a b c a_new b_new c_new walls (act.KillProb who p) more_a more_b more_c is = (species_stay 0 a a_new who more_a is.0, is.1)
+act_stays a b c a_new b_new c_new walls (act.Kill who) more_a more_b more_c is = species_stay a a_new who more_a is
+act_stays a b c a_new b_new c_new walls (act.KillProb who p) more_a more_b more_c is = (species_stay a a_new who more_a is.0, is.1)
 act_stays a b c a_new b_new c_new walls (act.Replace who to p) more_a more_b more_c is =
     let second = is.1 in
-    (species_stay 0 a a_new who more_a is.0, omega arith, is.2)
+    (species_stay a a_new who more_a is.0, omega arith, is.2)
 act_stays a b c a_new b_new c_new walls (act.PointSource species n place) more_a more_b more_c is =
     let first = is.0 in
     (omega arith, is.1, is.2, is.3)
