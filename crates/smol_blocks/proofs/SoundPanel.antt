@@ -44,7 +44,9 @@ edge_of true low high below = tt
 edge_of false low high below = below
 
 -- on an axis in use
-used_reach : (dims across axis : ℕ) (corner extent : ℤ) → axis < dims → negsuc 999999999999 ≤ℤ corner → pos 0 ≤ℤ extent → (corner +ℤ extent) ≤ℤ pos most_micros → (across ≡ axis → extent ≡ pos 0) → IsEdge (axis == across) (ticks_of corner) (ticks_of (corner +ℤ extent))
+used_reach : (dims across axis : ℕ) (corner extent : ℤ) → axis < dims → negsuc 999999999999 ≤ℤ corner → pos 0 ≤ℤ extent
+    → (corner +ℤ extent) ≤ℤ pos most_micros → (across ≡ axis → extent ≡ pos 0)
+    → IsEdge (axis == across) (ticks_of corner) (ticks_of (corner +ℤ extent))
     → IsReach dims across axis corner extent
 used_reach dims across axis corner extent used low grows high flat long = record {
   low_size = ticks_size corner low (omega (arith, ints));

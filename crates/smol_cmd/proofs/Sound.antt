@@ -30,7 +30,7 @@ use Rattle.smol_cmd.specs.Who.{who_in}
 use Rattle.smol_cmd.specs.Probability.{probability_in}
 use Rattle.smol_cmd.specs.Outlet.{outlet_in}
 use Rattle.smol_cmd.specs.Echo.{quoted_in, rest_behind, spelled}
-use Rattle.smol_cmd.specs.Act.{act_in, act_of, count_within_in, echo_in, kill_in, kill_prob_in, place_in, point_source_in, positions_in, print_in, replace_in, verb_in}
+use Rattle.smol_cmd.specs.Act.{act_in, act_of, count_within_in, echo_in, echo_parts_in, kill_in, kill_prob_in, place_in, point_source_in, positions_in, print_in, replace_in, verb_in}
 use Rattle.smol_cmd.specs.Test.{asked_in, condition_in, condition_words, test_in, test_of}
 use Rattle.smol_cmd.specs.Cmd.{cmd_in, command_in, command_of}
 use Rattle.smol_cmd.proofs.Values.{outlet_is, probability_is, when_is, who_is}
@@ -64,13 +64,20 @@ positions_is known line at found is =
     subst (Does known) (same_value (act.Positions who.0 out.0) found out.2)
     (who_is known.species (word_at line (at + 1)) who.0 who.1, outlet_is known.outputs (word_at line (at + 2)) out.0 out.1)
 
+echo_parts_are : (known : Known) (line : Stated) (at : ℕ) (parts : ℕ × List ℕ) → echo_parts_in known line at ≡ Ok parts
+    → IsOutlet (length known.outputs) parts.0
+unfolding echo_parts_in
+echo_parts_are known line at parts is =
+    let bytes = valued (there (quoted_in (rest_behind (at + 1) line.part)) WrongWordCount) _ parts is in
+    let out = valued (outlet_in known.outputs (word_at line (at + 1))) _ parts bytes.2 in
+    subst (λ (parts : ℕ × List ℕ). IsOutlet (length known.outputs) parts.0) (same_value (out.0, bytes.0) parts out.2)
+    (outlet_is known.outputs (word_at line (at + 1)) out.0 out.1)
+
 echo_is : (known : Known) (line : Stated) (at : ℕ) (found : Act) → echo_in known line at ≡ Ok found → Does known found
 unfolding echo_in
 echo_is known line at found is =
-    let bytes = valued (there (quoted_in (rest_behind (at + 1) line.part)) WrongWordCount) _ found is in
-    let out = valued (outlet_in known.outputs (word_at line (at + 1))) _ found bytes.2 in
-    subst (Does known) (same_value (act.Echo out.0 (spelled bytes.0)) found out.2)
-    (outlet_is known.outputs (word_at line (at + 1)) out.0 out.1)
+    let parts = valued (echo_parts_in known line at) _ found is in
+    subst (Does known) (same_value (act.Echo parts.0.0 (spelled parts.0.1)) found parts.2) (echo_parts_are known line at parts.0 parts.1)
 
 kill_is : (known : Known) (line : Stated) (at : ℕ) (found : Act) → kill_in known line at ≡ Ok found → Does known found
 unfolding kill_in

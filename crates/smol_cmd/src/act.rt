@@ -97,7 +97,7 @@ fn echo_parts_in<'a>(
 }
 
 // `echo OUT "TEXT"`.
-#[tactic(auto, unfolding(crate::specs::Act::echo_in, crate::specs::Act::echo_parts_in))]
+#[tactic(auto, unfolding(crate::specs::Act::echo_in))]
 fn echo_in(
     alloc: Global,
     known: &Known<'_>,

@@ -1,5 +1,5 @@
 -- The fault of a part is told as one of the run that goes with what the part is defined to do.
-use Rattle.std.proofs.Common.{◌≡◌, ℕ, [], Option, Result, Ok, Err, refl, ap, ◌∙◌}
+use Rattle.std.proofs.Common.{◌≡◌, ◌+◌, ℕ, [], Option, Result, Err, refl, ap}
 use Rattle.smol_edge.specs.Faults.{Tells}
 use Rattle.smol_edge.specs.Outlets.{Written}
 use Rattle.smol_types.specs.declared.draft.Draft.{Draft}
@@ -55,16 +55,16 @@ step_writes_nothing k (step.TooManyMolecules found) is = cc is
 step_writes_nothing k step.OutOfMemory is = cc is
 
 -- a molecule without a place keeps the run from its beginning
-pub placing_ends : {T : Type 0} (draft : Draft) (seed : ℕ) (one : PlaceFault) → IsFaultOf (opening_state draft seed) one
+pub placing_ends : (T : Type 0) (draft : Draft) (seed : ℕ) (one : PlaceFault) → IsFaultOf (opening_state draft seed) one
     → EndsAs {T = T} (run_of draft seed) (Err (fault_of_placing one))
 unfolding run_of
-placing_ends draft seed (place.NoPlace line serial) is = ap (run_from draft seed) is
-placing_ends draft seed place.OutOfMemory is = tt
+placing_ends T draft seed (place.NoPlace line serial) is = ap (run_from draft seed) is
+placing_ends T draft seed place.OutOfMemory is = tt
 
-pub placing_prints : {T : Type 0} (draft : Draft) (seed : ℕ) (a : Option Written) (one : PlaceFault)
+pub placing_prints : (T : Type 0) (draft : Draft) (seed : ℕ) (a : Option Written) (one : PlaceFault)
     → Tells a a (Prints {T = T} (run_of draft seed) (Err (fault_of_placing one)))
-placing_prints draft seed a (place.NoPlace line serial) = nothing_written [] a refl
-placing_prints draft seed a place.OutOfMemory = front_nothing _ a
+placing_prints T draft seed a (place.NoPlace line serial) = nothing_written [] a refl
+placing_prints T draft seed a place.OutOfMemory = front_nothing _ a
 
 pub placing_writes_nothing : (one : PlaceFault) → fault_of_placing one ≡ fault.OutputFault → ⊥
 placing_writes_nothing (place.NoPlace line serial) is = cc is

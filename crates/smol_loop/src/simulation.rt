@@ -127,8 +127,12 @@ pub fn simulate<R: Threads + Sync, K: Outlets, G: Gate + Sync>(
         Ok(state) => state,
         Err(fault) => return Err(fault_of_placing(fault)),
     };
-    let mut pages = blank_pages(alloc, config)?;
-    let panels = Panels::of(alloc, config)?;
+    let Ok(mut pages) = blank_pages(alloc, config) else {
+        return Err(RunFault::OutOfMemory);
+    };
+    let Ok(panels) = Panels::of(alloc, config) else {
+        return Err(RunFault::OutOfMemory);
+    };
     match run_on(
         rt,
         alloc,

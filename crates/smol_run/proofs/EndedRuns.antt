@@ -1,5 +1,5 @@
 -- A fault of a run and the line that tells it come to the outcome of the run, or are cut off on the way.
-use Rattle.std.proofs.Common.{◌≡◌, ◌≢◌, ℕ, List, [], Result, Ok, Err, refl, subst}
+use Rattle.std.proofs.Common.{◌≡◌, ℕ, List, [], Result, Ok, Err, refl, subst}
 use Rattle.smol_edge.specs.Faults.{Rose}
 use Rattle.smol_edge.specs.Outlets.{Appends, AppendsFrontOf, Written}
 use Rattle.smol_edge.proofs.PieceFronts.{AppendsFrontOf-all, AppendsFrontOf-nothing}
@@ -21,7 +21,8 @@ use Rattle.smol_run.proofs.Cuts.{no_place_cut_off, no_place_told, over_cut_off, 
 
 module _ (T : Type 0) (names : List (List ℕ)) (run : Result Stretch NoPlace) where
   -- what was printed until a fault is a front of the outcome, whatever the fault is
-  pub printed_cut_off : (one : RunFault) (a b c : Written) → OpensAll names a b → Prints {T = T} run (Err one) b c → IsCutOff (outcome_of_run names run) a c
+  pub printed_cut_off : (one : RunFault) (a b c : Written) → OpensAll names a b → Prints {T = T} run (Err one) b c
+      → IsCutOff (outcome_of_run names run) a c
   printed_cut_off (fault.NoPlace line serial) a b c opened printed = run_cut_off names run a b c opened (AppendsFrontOf-nothing (pieces_of run) b c printed)
   printed_cut_off (fault.TooManyMolecules step) a b c opened printed = run_cut_off names run a b c opened (AppendsFrontOf-all (pieces_of run) b c printed)
   printed_cut_off fault.OutputFault a b c opened printed = run_cut_off names run a b c opened printed
@@ -57,7 +58,7 @@ module _ (T : Type 0) (names : List (List ℕ)) (run : Result Stretch NoPlace) w
 
 -- no write failed in a run that has an end of its own
 pub end_counts : (one : RunFault) (end : Ended) (before after : ℕ) → ended_by one ≡ Ok end
-    → ((Err {A = Unit {0}} one ≢ Err fault.OutputFault) → after ≡ before) → after ≡ before
+    → ((one ≡ fault.OutputFault → ⊥) → after ≡ before) → after ≡ before
 end_counts (fault.NoPlace line serial) end before after is stays = stays (λ same. cc same)
 end_counts (fault.TooManyMolecules step) end before after is stays = stays (λ same. cc same)
 end_counts fault.OutputFault end before after is stays = absurd (cc is)
@@ -65,7 +66,7 @@ end_counts fault.OutOfMemory end before after is stays = absurd (cc is)
 
 -- a run that was cut off tells whether a write failed
 pub loss_counts : (one : RunFault) (why : Loss) (before after : ℕ) → ended_by one ≡ Err why
-    → (Err {A = Unit {0}} one ≡ Err fault.OutputFault → Rose before after) → ((Err {A = Unit {0}} one ≢ Err fault.OutputFault) → after ≡ before)
+    → (one ≡ fault.OutputFault → Rose before after) → ((one ≡ fault.OutputFault → ⊥) → after ≡ before)
     → CountsLoss {T = Status} (Err why) before after
 loss_counts (fault.NoPlace line serial) why before after is rose stays = absurd (cc is)
 loss_counts (fault.TooManyMolecules step) why before after is rose stays = absurd (cc is)

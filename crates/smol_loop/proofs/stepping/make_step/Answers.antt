@@ -1,10 +1,11 @@
-use Rattle.std.proofs.Common.{Err, ap, arith, sym, subst, ◌∙◌}
+use Rattle.std.proofs.Common.{◌≡◌, Err, arith, sym, subst, ◌∙◌}
 use Rattle.smol_types.specs.declared.state.State.{State}
 use Rattle.smol_meaning.specs.Run.{step_of}
 use Rattle.smol_meaning.specs.Step.{next_state}
 use Rattle.smol_meaning.proofs.Stepping.{next_step}
 use Rattle.smol_step.specs.Advance.{IsAnswer}
 use Rattle.smol_loop.specs.declared.run_fault.RunFault.{RunFault}
+use Rattle.smol_loop.specs.declared.run_fault.RunFault.TheVariants as fault
 use Rattle.smol_loop.specs.Parts.{EndsPart}
 use Rattle.smol_loop.proofs.ToldFaults.{step_ends, step_writes_nothing}
 use Rattle.smol_loop.proofs.stepping.make_step.Goals as goal
