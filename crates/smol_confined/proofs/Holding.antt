@@ -22,7 +22,8 @@ use Rattle.smol_confined.proofs.Listed.{got_there, has_numbered}
 use Rattle.smol_confined.proofs.Quiet.{IsQuiet, all_quiet, panel_acts, wall_acts}
 
 -- the inner face of a panel is the one on which a molecule from within arrives
-inner_is : (panel : Panel) (greater : Bool) (upper : Bool) → panel.greater ≡ greater → inner_face panel upper ≡ arrival_face panel.greater upper
+inner_is : (panel : Panel) (greater : Bool) (upper : Bool) → panel.greater ≡ greater
+    → inner_face panel upper ≡ arrival_face panel.greater upper
 inner_is panel true true is = rw is refl
 inner_is panel true false is = rw is refl
 inner_is panel false true is = rw is refl
@@ -43,14 +44,16 @@ module _ (draft : Draft) (species : ℕ) where
   response_here entry false is =
       ap (λ act. response_by entry.0 act (panel_jump draft.panels entry.1 (destination_of entry.1 (arrival_face entry.1.greater false)))) is
 
-  wall_response_here : (entry : ℕ × Wall) (upper : Bool) → action_of draft entry.0 (arrival_face (not entry.1.upper) upper) species ≡ action.Reflect
+  wall_response_here : (entry : ℕ × Wall) (upper : Bool) → action_of draft entry.0
+      (arrival_face (not entry.1.upper) upper) species ≡ action.Reflect
       → response_of (wall_plate draft species entry) upper ≡ Reflect
   wall_response_here entry true is = ap (λ act. response_by entry.0 act (wall_jump entry.1 true (opposite_of draft.walls entry.1))) is
   wall_response_here entry false is = ap (λ act. response_by entry.0 act (wall_jump entry.1 false (opposite_of draft.walls entry.1))) is
 
   module _ (box : Cuboid) (axis : ℕ) (plane : ℤ) (upper : Bool) where
     -- a face that a panel holds is shut
-    panel_shuts : (panel : Panel) → IsPanelAt draft species box axis plane upper panel → IsFaceShut (plates_of draft species) box axis plane upper
+    panel_shuts : (panel : Panel) → IsPanelAt draft species box axis plane upper panel → IsFaceShut
+        (plates_of draft species) box axis plane upper
     unfolding plates_of
     panel_shuts panel is =
         let there = got_there draft.panels panel is.listed in
@@ -59,13 +62,16 @@ module _ (draft : Draft) (species : ℕ) where
         let at : 0 + there.0 ≡ there.0 = omega arith in
         record {
           plate = panel_plate draft species (there.0, panel);
-          listed = Contains-append_left (map (panel_plate draft species) (enumerate_from 0 draft.panels)) (map (wall_plate draft species) (enumerate_from (length draft.panels) draft.walls)) _
-              (subst (λ k. Contains (map (panel_plate draft species) (enumerate_from 0 draft.panels)) (panel_plate draft species (k, panel))) at
+          listed = Contains-append_left (map (panel_plate draft species) (enumerate_from 0 draft.panels))
+              (map (wall_plate draft species) (enumerate_from (length draft.panels) draft.walls)) _
+              (subst (λ k. Contains (map (panel_plate draft species) (enumerate_from 0 draft.panels))
+              (panel_plate draft species (k, panel))) at
               (contains_had _ _ (has_numbered (panel_plate draft species) 0 draft.panels there.0 panel there.1)));
           across = is.across;
           at_plane = is.at_plane;
           covers = is.covers;
-          reflects = response_here (there.0, panel) upper (acts ∙ ap (λ f. panel_action draft.surfaces panel f species) (sym face) ∙ is.reflects);
+          reflects = response_here (there.0, panel) upper
+              (acts ∙ ap (λ f. panel_action draft.surfaces panel f species) (sym face) ∙ is.reflects);
         }
 
     -- and so is one at which a wall stands
@@ -77,7 +83,8 @@ module _ (draft : Draft) (species : ℕ) where
         let face = front_is wall.upper upper is.side in
         record {
           plate = wall_plate draft species (length draft.panels + there.0, wall);
-          listed = Contains-append_right (map (panel_plate draft species) (enumerate_from 0 draft.panels)) (map (wall_plate draft species) (enumerate_from (length draft.panels) draft.walls)) _
+          listed = Contains-append_right (map (panel_plate draft species) (enumerate_from 0 draft.panels))
+              (map (wall_plate draft species) (enumerate_from (length draft.panels) draft.walls)) _
               (contains_had _ _ (has_numbered (wall_plate draft species) (length draft.panels) draft.walls there.0 wall there.1));
           across = is.across;
           at_plane = is.at_plane;
@@ -95,8 +102,10 @@ module _ (draft : Draft) (species : ℕ) where
     lower = λ axis used. shut box axis (on_axis box.low axis) false (built.lower axis used);
     upper = λ axis used. shut box axis (on_axis box.high axis) true (built.upper axis used);
     quiet = λ plate listed point within on.
-        All-contains (IsQuiet draft species box) (plates_of draft species) plate (all_quiet draft species box sound built.jumps built.periods) listed point within on;
+        All-contains (IsQuiet draft species box) (plates_of draft species) plate
+        (all_quiet draft species box sound built.jumps built.periods) listed point within on;
   }
 
-pub is_closed_box : (draft : Draft) (box : Cuboid) → IsSound draft → ((species : ℕ) → species < length draft.species → IsBuilt draft species box) → IsClosedBox draft box
+pub is_closed_box : (draft : Draft) (box : Cuboid) → IsSound draft →
+    ((species : ℕ) → species < length draft.species → IsBuilt draft species box) → IsClosedBox draft box
 is_closed_box draft box sound built = λ species within. is_closed draft species box sound (built species within)

@@ -7,7 +7,8 @@ use Rattle.std.proofs.lemmas.Option.{slice_get_read}
 use Rattle.smol_geom.specs.Moments.{Has}
 
 -- what holds of each with its number holds of all
-pub all_numbered : {X : Type 0} → (P : ℕ × X → Type 0) (n : ℕ) (xs : List X) → ((i : ℕ) (x : X) → slice_get xs i ≡ Some x → P (n + i, x)) → All P (enumerate_from n xs)
+pub all_numbered : {X : Type 0} → (P : ℕ × X → Type 0) (n : ℕ) (xs : List X) → ((i : ℕ) (x : X) → slice_get xs i ≡ Some x → P (n + i, x))
+    → All P (enumerate_from n xs)
 all_numbered P n [] each = All-nil P
 all_numbered P n (x ∷ xs) each =
     All-cons P (n, x) (enumerate_from (n + 1) xs)
@@ -17,7 +18,8 @@ all_numbered P n (x ∷ xs) each =
     subst (λ k. P (k, y)) there (each (suc i) y is)))
 
 -- what is made of an element with its number is among what is made of all
-pub has_numbered : {X Y : Type 0} → (f : ℕ × X → Y) (n : ℕ) (xs : List X) (i : ℕ) (x : X) → slice_get xs i ≡ Some x → Has (map f (enumerate_from n xs)) (f (n + i, x))
+pub has_numbered : {X Y : Type 0} → (f : ℕ × X → Y) (n : ℕ) (xs : List X) (i : ℕ) (x : X) → slice_get xs i ≡ Some x → Has
+    (map f (enumerate_from n xs)) (f (n + i, x))
 has_numbered f n [] i x is = absurd (cc)
 has_numbered f n (y ∷ xs) zero x is =
     let same : y ≡ x = cc in

@@ -58,9 +58,11 @@ none_of_wall : (wall : Wall) (box : Cuboid) (point : ℕ → Fraction) → wall.
     → (wall.plane <ℤ on_axis box.low wall.axis) ⊎ (on_axis box.high wall.axis <ℤ wall.plane)
     → IsInRegion box point → point wall.axis ≈ℚ whole wall.plane → ⊥
 none_of_wall wall box point l (inl below) within on =
-    none_over (on_axis box.low wall.axis) wall.plane (point wall.axis) (within wall.axis l).number below (within wall.axis l).above (same_both (point wall.axis) wall.plane on).1
+    none_over (on_axis box.low wall.axis) wall.plane (point wall.axis) (within wall.axis l).number below (within wall.axis l).above
+    (same_both (point wall.axis) wall.plane on).1
 none_of_wall wall box point l (inr above) within on =
-    none_over wall.plane (on_axis box.high wall.axis) (point wall.axis) (within wall.axis l).number above (same_both (point wall.axis) wall.plane on).0 (within wall.axis l).below
+    none_over wall.plane (on_axis box.high wall.axis) (point wall.axis) (within wall.axis l).number above
+    (same_both (point wall.axis) wall.plane on).0 (within wall.axis l).below
 
 -- an action that is no jump moves nothing elsewhere
 stays : (number : ℕ) (act : Action) (jump : Response) → (act ≡ action.Jump → ⊥) → StaysPut (response_by number act jump)
@@ -92,7 +94,8 @@ module _ (draft : Draft) (species : ℕ) where
   unfolding action_of
   wall_acts i wall face is =
       let back : (length draft.panels + i) - length draft.panels ≡ i = omega arith in
-      ap (action_of_panel draft (length draft.panels + i) face species) (slice_get_past draft.panels (length draft.panels + i) (omega arith))
+      ap (action_of_panel draft (length draft.panels + i) face species)
+      (slice_get_past draft.panels (length draft.panels + i) (omega arith))
       ∙ ap (λ k. action_of_wall face (slice_get draft.walls k)) back
       ∙ ap (action_of_wall face) is
 
@@ -101,7 +104,8 @@ module _ (draft : Draft) (species : ℕ) where
   IsQuiet box plate =
       (point : ℕ → Fraction) → IsInRegion box point → IsOn plate.sheet point → StaysPut plate.from_below × StaysPut plate.from_above
 
-  panel_quiet : (box : Cuboid) (number : ℕ) (panel : Panel) → slice_get draft.panels number ≡ Some panel → IsNoJumpIn draft species box panel
+  panel_quiet : (box : Cuboid) (number : ℕ) (panel : Panel) → slice_get draft.panels number ≡ Some panel
+      → IsNoJumpIn draft species box panel
       → IsQuiet box (panel_plate draft species (number, panel))
   panel_quiet box number panel is apart = λ point within on.
       let by : (face : Face) → StaysPut (panel_response draft species number panel face) = λ face.
@@ -114,7 +118,8 @@ module _ (draft : Draft) (species : ℕ) where
   wall_quiet box i wall is l apart = λ point within on.
       let by : (up : Bool) → StaysPut (wall_response draft species (length draft.panels + i) wall up) = λ up.
       stays (length draft.panels + i) (action_of draft (length draft.panels + i) (arrival_face (not wall.upper) up) species) _
-      (λ e. none_of_wall wall box point l (apart (only_periodic wall.letter _ (sym (wall_acts i wall (arrival_face (not wall.upper) up) is) ∙ e))) within on) in
+      (λ e. none_of_wall wall box point l
+      (apart (only_periodic wall.letter _ (sym (wall_acts i wall (arrival_face (not wall.upper) up) is) ∙ e))) within on) in
       (by true, by false)
 
   -- what holds of all holds of the one that is got
@@ -127,11 +132,13 @@ module _ (draft : Draft) (species : ℕ) where
       → All (IsQuiet box) (plates_of draft species)
   unfolding plates_of
   all_quiet box sound jumps periods =
-      All-append (IsQuiet box) (map (panel_plate draft species) (enumerate_from 0 draft.panels)) (map (wall_plate draft species) (enumerate_from (length draft.panels) draft.walls))
+      All-append (IsQuiet box) (map (panel_plate draft species) (enumerate_from 0 draft.panels))
+      (map (wall_plate draft species) (enumerate_from (length draft.panels) draft.walls))
       (All-map (IsQuiet box) (panel_plate draft species) (enumerate_from 0 draft.panels)
       (all_numbered (λ entry. IsQuiet box (panel_plate draft species entry)) 0 draft.panels (λ i panel is.
       let at : i ≡ 0 + i = omega arith in
-      subst (λ k. IsQuiet box (panel_plate draft species (k, panel))) at (panel_quiet box i panel is (got (IsNoJumpIn draft species box) draft.panels i panel is jumps)))))
+      subst (λ k. IsQuiet box (panel_plate draft species (k, panel))) at
+      (panel_quiet box i panel is (got (IsNoJumpIn draft species box) draft.panels i panel is jumps)))))
       (All-map (IsQuiet box) (wall_plate draft species) (enumerate_from (length draft.panels) draft.walls)
       (all_numbered (λ entry. IsQuiet box (wall_plate draft species entry)) (length draft.panels) draft.walls (λ i wall is.
       wall_quiet box i wall is (got (λ w. IsWallPlane w.axis w.plane) draft.walls i wall is (wall_planes_fit draft species sound)).across

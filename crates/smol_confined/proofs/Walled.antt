@@ -22,7 +22,8 @@ record AxisAt (walls : List Wall) (number j : ℕ) : Type 0 where
   high_there : slice_get walls (2 * j + 1) ≡ Some upper
   is : IsAxis number lower upper
 
-axis_at : (walls : List Wall) (number count j : ℕ) → AreWalls number walls → length walls ≡ 2 * count → j < count → AxisAt walls (number + j) j
+axis_at : (walls : List Wall) (number count j : ℕ) → AreWalls number walls → length walls ≡ 2 * count → j < count → AxisAt walls
+    (number + j) j
 axis_at [] number count j are many within = absurd (omega (arith, many, within))
 axis_at (l ∷ []) number count j are many within = absurd are
 axis_at (l ∷ u ∷ walls) number count zero are many within =
@@ -74,29 +75,34 @@ module _ (draft : Draft) (sound : IsSound draft) (all : All Reflects draft.walls
       let from_none : 0 + axis ≡ axis = omega arith in
       subst (λ n. AxisAt draft.walls n axis) from_none (axis_at draft.walls 0 draft.dims axis sound.walls sound.wall_count used)
 
-  stands : (axis : ℕ) (plane : ℤ) (upper : Bool) (i : ℕ) (wall : Wall) → slice_get draft.walls i ≡ Some wall → wall.axis ≡ axis → wall.plane ≡ plane → wall.upper ≡ upper
+  stands : (axis : ℕ) (plane : ℤ) (upper : Bool) (i : ℕ) (wall : Wall) → slice_get draft.walls i ≡ Some wall → wall.axis ≡ axis
+      → wall.plane ≡ plane → wall.upper ≡ upper
       → IsWallAt draft axis plane upper wall
   stands axis plane upper i wall there across at side =
       let listed = contains_had draft.walls wall (has_got draft.walls i wall there) in
       record { listed = listed; across = across; at_plane = at; side = side; reflects = All-contains Reflects draft.walls wall all listed }
 
   -- so they build it
-  pub walls_build : (species : ℕ) → All (IsNoJumpIn draft species (box_of_walls draft.walls)) draft.panels → IsBuilt draft species (box_of_walls draft.walls)
+  pub walls_build : (species : ℕ) → All (IsNoJumpIn draft species (box_of_walls draft.walls)) draft.panels → IsBuilt draft species
+      (box_of_walls draft.walls)
   walls_build species jumps = record {
     lower = λ axis used.
         let w = here axis used in
         inr (
           w.lower,
           stands axis _ false (2 * axis) w.lower w.low_there w.is.lower_axis
-              (sym (low_plane draft.walls axis (omega (arith, used, sound.dims_below)) ∙ plane_there draft.walls (2 * axis) (pos 0) w.lower w.low_there)) w.is.lower_side,
+              (sym (low_plane draft.walls axis (omega (arith, used, sound.dims_below)) ∙ plane_there draft.walls (2 * axis)
+              (pos 0) w.lower w.low_there)) w.is.lower_side,
         );
     upper = λ axis used.
         let w = here axis used in
         inr (
           w.upper,
           stands axis _ true (2 * axis + 1) w.upper w.high_there w.is.upper_axis
-              (sym (high_plane draft.walls axis (omega (arith, used, sound.dims_below)) ∙ plane_there draft.walls (2 * axis + 1) (pos 2) w.upper w.high_there)) w.is.upper_side,
+              (sym (high_plane draft.walls axis (omega (arith, used, sound.dims_below)) ∙ plane_there draft.walls (2 * axis + 1)
+              (pos 2) w.upper w.high_there)) w.is.upper_side,
         );
     jumps = jumps;
-    periods = All-weaker Reflects (IsNoPeriodIn (box_of_walls draft.walls)) (λ wall r p. absurd (not_periodic wall.letter r p)) draft.walls all;
+    periods = All-weaker Reflects (IsNoPeriodIn (box_of_walls draft.walls))
+        (λ wall r p. absurd (not_periodic wall.letter r p)) draft.walls all;
   }

@@ -32,7 +32,8 @@ has_taken : {X : Type 0} → (here : Bool) (xs : List X) (x : X) → here ≡ tr
 has_taken true xs x e has = has
 has_taken false xs x e has = absurd (cc)
 
-first_has : {X : Type 0} → (here : Bool) (y : X) (ys : List X) (x : X) → Has (cond here (y ∷ ys) ys) x → ((here ≡ true) × (y ≡ x)) ⊎ Has ys x
+first_has : {X : Type 0} → (here : Bool) (y : X) (ys : List X) (x : X) → Has (cond here (y ∷ ys) ys) x →
+    ((here ≡ true) × (y ≡ x)) ⊎ Has ys x
 first_has true y ys x (inl e) = inl (refl, e)
 first_has true y ys x (inr has) = inr has
 first_has false y ys x has = inr has
@@ -47,14 +48,16 @@ has_rest false y ys x has = has
 
 module _ (draft : Draft) (seed k : ℕ) where
   -- two molecules may react by the reaction at this place of a list
-  pub record ReactsBy (rank_a : ℕ) (a : Mol) (rank_b : ℕ) (b : Mol) (number : ℕ) (reactions : List Reaction) (e : Encounter) (i : ℕ) : Type 0 where
+  pub record ReactsBy (rank_a : ℕ) (a : Mol) (rank_b : ℕ) (b : Mol) (number : ℕ) (reactions : List Reaction) (e : Encounter)
+      (i : ℕ) : Type 0 where
     pub reaction : Reaction
     pub listed : slice_get reactions i ≡ Some reaction
     pub same : encounter rank_a a rank_b b (number + i) ≡ e
     pub may : may_react draft seed k reaction e ≡ true
 
   pub two_are : (rank_a : ℕ) (a : Mol) (rank_b : ℕ) (b : Mol) (number : ℕ) (reactions : List Reaction) (e : Encounter)
-      → Has (encounters_of_two draft seed k rank_a a rank_b b number reactions) e → (i : ℕ) × ReactsBy rank_a a rank_b b number reactions e i
+      → Has (encounters_of_two draft seed k rank_a a rank_b b number reactions) e → (i : ℕ)
+      × ReactsBy rank_a a rank_b b number reactions e i
   two_are rank_a a rank_b b number [] e has = absurd has
   two_are rank_a a rank_b b number (reaction ∷ reactions) e has =
       ⊎_elim here (λ there. later (two_are rank_a a rank_b b (number + 1) reactions e there))
@@ -64,13 +67,30 @@ module _ (draft : Draft) (seed k : ℕ) where
       here : (may_react draft seed k reaction (encounter rank_a a rank_b b number) ≡ true) × (encounter rank_a a rank_b b number ≡ e)
           → (i : ℕ) × ReactsBy rank_a a rank_b b number (reaction ∷ reactions) e i
       here is =
-          let at : number + 0 ≡ number = omega arith in
-          (0, record { reaction = reaction; listed = refl; same = ap (encounter rank_a a rank_b b) at ∙ is.1; may = sym (ap (may_react draft seed k reaction) is.1) ∙ is.0 })
+          let at : number + 0 ≡ number = omega arith in (
+            0,
+            record {
+              reaction = reaction;
+              listed = refl;
+              same = ap (encounter rank_a a rank_b b) at ∙ is.1;
+              may = sym
+                  (ap (may_react draft seed k reaction) is.1) ∙ is.0;
+            },
+          )
 
-      later : (i : ℕ) × ReactsBy rank_a a rank_b b (number + 1) reactions e i → (i : ℕ) × ReactsBy rank_a a rank_b b number (reaction ∷ reactions) e i
+      later : (i : ℕ) × ReactsBy rank_a a rank_b b (number + 1) reactions e i → (i : ℕ) × ReactsBy rank_a a rank_b b number
+          (reaction ∷ reactions) e i
       later rest =
-          let at : number + suc rest.0 ≡ (number + 1) + rest.0 = omega arith in
-          (suc rest.0, record { reaction = rest.1.reaction; listed = rest.1.listed; same = ap (encounter rank_a a rank_b b) at ∙ rest.1.same; may = rest.1.may })
+          let at : number + suc rest.0 ≡ (number + 1) + rest.0 = omega arith in (
+            suc rest.0,
+            record {
+              reaction = rest.1.reaction;
+              listed = rest.1.listed;
+              same = ap (encounter rank_a a rank_b b) at
+                  ∙ rest.1.same;
+              may = rest.1.may;
+            },
+          )
 
   pub are_two : (rank_a : ℕ) (a : Mol) (rank_b : ℕ) (b : Mol) (number : ℕ) (reactions : List Reaction) (i : ℕ) (reaction : Reaction)
       → slice_get reactions i ≡ Some reaction → may_react draft seed k reaction (encounter rank_a a rank_b b (number + i)) ≡ true
@@ -79,14 +99,17 @@ module _ (draft : Draft) (seed k : ℕ) where
   are_two rank_a a rank_b b number (first ∷ reactions) zero reaction is may =
       let same : reaction ≡ first = cc in
       let at : number + 0 ≡ number = omega arith in
-      let here : may_react draft seed k first (encounter rank_a a rank_b b number) ≡ true = subst (λ r. may_react draft seed k r (encounter rank_a a rank_b b number) ≡ true) same
+      let here : may_react draft seed k first (encounter rank_a a rank_b b number) ≡ true = subst
+      (λ r. may_react draft seed k r (encounter rank_a a rank_b b number) ≡ true) same
       (subst (λ n. may_react draft seed k reaction (encounter rank_a a rank_b b n) ≡ true) at may) in
-      subst (λ n. Has (encounters_of_two draft seed k rank_a a rank_b b number (first ∷ reactions)) (encounter rank_a a rank_b b n)) (sym at)
+      subst (λ n. Has (encounters_of_two draft seed k rank_a a rank_b b number (first ∷ reactions)) (encounter rank_a a rank_b b n))
+      (sym at)
       (has_first (may_react draft seed k first (encounter rank_a a rank_b b number)) (encounter rank_a a rank_b b number)
       (encounters_of_two draft seed k rank_a a rank_b b (number + 1) reactions) here)
   are_two rank_a a rank_b b number (first ∷ reactions) (suc i) reaction is may =
       let at : number + suc i ≡ (number + 1) + i = omega arith in
-      subst (λ n. Has (encounters_of_two draft seed k rank_a a rank_b b number (first ∷ reactions)) (encounter rank_a a rank_b b n)) (sym at)
+      subst (λ n. Has (encounters_of_two draft seed k rank_a a rank_b b number (first ∷ reactions)) (encounter rank_a a rank_b b n))
+      (sym at)
       (has_rest (may_react draft seed k first (encounter rank_a a rank_b b number)) (encounter rank_a a rank_b b number)
       (encounters_of_two draft seed k rank_a a rank_b b (number + 1) reactions) _
       (are_two rank_a a rank_b b (number + 1) reactions i reaction is
@@ -99,17 +122,28 @@ module _ (draft : Draft) (seed k : ℕ) where
     free : is_free draft seed k other ≡ true
     has : Has (encounters_of_two draft seed k rank_a a (rank_b + i) other 0 draft.reactions) e
 
-  with_are : (rank_a : ℕ) (a : Mol) (rank_b : ℕ) (mols : List Mol) (e : Encounter) → Has (encounters_with draft seed k rank_a a rank_b mols) e
+  with_are : (rank_a : ℕ) (a : Mol) (rank_b : ℕ) (mols : List Mol) (e : Encounter) → Has
+      (encounters_with draft seed k rank_a a rank_b mols) e
       → (i : ℕ) × MeetsAt rank_a a rank_b mols e i
   with_are rank_a a rank_b [] e has = absurd has
   with_are rank_a a rank_b (b ∷ mols) e has =
-      ⊎_elim here (λ there. later (with_are rank_a a (rank_b + 1) mols e there)) (has_either _ (encounters_with draft seed k rank_a a (rank_b + 1) mols) e has)
+      ⊎_elim here (λ there. later (with_are rank_a a (rank_b + 1) mols e there))
+      (has_either _ (encounters_with draft seed k rank_a a (rank_b + 1) mols) e has)
     where
-      here : Has (cond (is_free draft seed k b) (encounters_of_two draft seed k rank_a a rank_b b 0 draft.reactions) []) e → (i : ℕ) × MeetsAt rank_a a rank_b (b ∷ mols) e i
+      here : Has (cond (is_free draft seed k b) (encounters_of_two draft seed k rank_a a rank_b b 0 draft.reactions) []) e → (i : ℕ)
+          × MeetsAt rank_a a rank_b (b ∷ mols) e i
       here there =
           let is = taken_has (is_free draft seed k b) _ e there in
-          let at : rank_b ≡ rank_b + 0 = omega arith in
-          (0, record { other = b; listed = refl; free = is.0; has = subst (λ n. Has (encounters_of_two draft seed k rank_a a n b 0 draft.reactions) e) at is.1 })
+          let at : rank_b ≡ rank_b + 0 = omega arith in (
+            0,
+            record {
+              other = b;
+              listed = refl;
+              free = is.0;
+              has = subst
+                  (λ n. Has (encounters_of_two draft seed k rank_a a n b 0 draft.reactions) e) at is.1;
+            },
+          )
 
       later : (i : ℕ) × MeetsAt rank_a a (rank_b + 1) mols e i → (i : ℕ) × MeetsAt rank_a a rank_b (b ∷ mols) e i
       later rest =
@@ -123,20 +157,25 @@ module _ (draft : Draft) (seed k : ℕ) where
             },
           )
 
-  are_with : (rank_a : ℕ) (a : Mol) (rank_b : ℕ) (mols : List Mol) (e : Encounter) (i : ℕ) (b : Mol) → slice_get mols i ≡ Some b → is_free draft seed k b ≡ true
-      → Has (encounters_of_two draft seed k rank_a a (rank_b + i) b 0 draft.reactions) e → Has (encounters_with draft seed k rank_a a rank_b mols) e
+  are_with : (rank_a : ℕ) (a : Mol) (rank_b : ℕ) (mols : List Mol) (e : Encounter) (i : ℕ) (b : Mol) → slice_get mols i ≡ Some b
+      → is_free draft seed k b ≡ true
+      → Has (encounters_of_two draft seed k rank_a a (rank_b + i) b 0 draft.reactions) e → Has
+      (encounters_with draft seed k rank_a a rank_b mols) e
   are_with rank_a a rank_b [] e i b is free has = absurd (cc)
   are_with rank_a a rank_b (c ∷ mols) e zero b is free has =
       let same : b ≡ c = cc in
       let at : rank_b + 0 ≡ rank_b = omega arith in
-      has_left (cond (is_free draft seed k c) (encounters_of_two draft seed k rank_a a rank_b c 0 draft.reactions) []) (encounters_with draft seed k rank_a a (rank_b + 1) mols) e
+      has_left (cond (is_free draft seed k c) (encounters_of_two draft seed k rank_a a rank_b c 0 draft.reactions) [])
+      (encounters_with draft seed k rank_a a (rank_b + 1) mols) e
       (has_taken (is_free draft seed k c) _ e (ap (is_free draft seed k) (sym same) ∙ free)
       (subst (λ m. Has (encounters_of_two draft seed k rank_a a rank_b m 0 draft.reactions) e) same
       (subst (λ n. Has (encounters_of_two draft seed k rank_a a n b 0 draft.reactions) e) at has)))
   are_with rank_a a rank_b (c ∷ mols) e (suc i) b is free has =
       let at : rank_b + suc i ≡ (rank_b + 1) + i = omega arith in
-      has_right (cond (is_free draft seed k c) (encounters_of_two draft seed k rank_a a rank_b c 0 draft.reactions) []) (encounters_with draft seed k rank_a a (rank_b + 1) mols) e
-      (are_with rank_a a (rank_b + 1) mols e i b is free (subst (λ n. Has (encounters_of_two draft seed k rank_a a n b 0 draft.reactions) e) at has))
+      has_right (cond (is_free draft seed k c) (encounters_of_two draft seed k rank_a a rank_b c 0 draft.reactions) [])
+      (encounters_with draft seed k rank_a a (rank_b + 1) mols) e
+      (are_with rank_a a (rank_b + 1) mols e i b is free
+      (subst (λ n. Has (encounters_of_two draft seed k rank_a a n b 0 draft.reactions) e) at has))
 
   -- all encounters are those of a free molecule with one behind it
   pub record MeetAt (rank : ℕ) (mols : List Mol) (e : Encounter) (i j : ℕ) : Type 0 where
@@ -149,12 +188,14 @@ module _ (draft : Draft) (seed k : ℕ) where
     pub other_free : is_free draft seed k other ≡ true
     pub has : Has (encounters_of_two draft seed k (rank + i) one (rank + j) other 0 draft.reactions) e
 
-  pub from_are : (rank : ℕ) (mols : List Mol) (e : Encounter) → Has (encounters_from draft seed k rank mols) e → (i : ℕ) × (j : ℕ) × MeetAt rank mols e i j
+  pub from_are : (rank : ℕ) (mols : List Mol) (e : Encounter) → Has (encounters_from draft seed k rank mols) e → (i : ℕ) × (j : ℕ)
+      × MeetAt rank mols e i j
   from_are rank [] e has = absurd has
   from_are rank (a ∷ mols) e has =
       ⊎_elim here (λ there. later (from_are (rank + 1) mols e there)) (has_either _ (encounters_from draft seed k (rank + 1) mols) e has)
     where
-      here : Has (cond (is_free draft seed k a) (encounters_with draft seed k rank a (rank + 1) mols) []) e → (i : ℕ) × (j : ℕ) × MeetAt rank (a ∷ mols) e i j
+      here : Has (cond (is_free draft seed k a) (encounters_with draft seed k rank a (rank + 1) mols) []) e → (i : ℕ) × (j : ℕ)
+          × MeetAt rank (a ∷ mols) e i j
       here there =
           let is = taken_has (is_free draft seed k a) _ e there in
           let met = with_are rank a (rank + 1) mols e is.1 in
@@ -195,7 +236,8 @@ module _ (draft : Draft) (seed k : ℕ) where
             },
           )
 
-  pub are_from : (rank : ℕ) (mols : List Mol) (e : Encounter) (i j : ℕ) (a b : Mol) → slice_get mols i ≡ Some a → slice_get mols j ≡ Some b → i < j
+  pub are_from : (rank : ℕ) (mols : List Mol) (e : Encounter) (i j : ℕ) (a b : Mol) → slice_get mols i ≡ Some a
+      → slice_get mols j ≡ Some b → i < j
       → is_free draft seed k a ≡ true → is_free draft seed k b ≡ true
       → Has (encounters_of_two draft seed k (rank + i) a (rank + j) b 0 draft.reactions) e → Has (encounters_from draft seed k rank mols) e
   are_from rank [] e i j a b is_a is_b less free_a free_b has = absurd (cc)
@@ -204,7 +246,8 @@ module _ (draft : Draft) (seed k : ℕ) where
       let same : a ≡ c = cc in
       let at_a : rank + 0 ≡ rank = omega arith in
       let at_b : rank + suc j ≡ (rank + 1) + j = omega arith in
-      has_left (cond (is_free draft seed k c) (encounters_with draft seed k rank c (rank + 1) mols) []) (encounters_from draft seed k (rank + 1) mols) e
+      has_left (cond (is_free draft seed k c) (encounters_with draft seed k rank c (rank + 1) mols) [])
+      (encounters_from draft seed k (rank + 1) mols) e
       (has_taken (is_free draft seed k c) _ e (ap (is_free draft seed k) (sym same) ∙ free_a)
       (are_with rank c (rank + 1) mols e j b is_b free_b
       (subst (λ m. Has (encounters_of_two draft seed k rank m ((rank + 1) + j) b 0 draft.reactions) e) same
@@ -213,7 +256,8 @@ module _ (draft : Draft) (seed k : ℕ) where
   are_from rank (c ∷ mols) e (suc i) (suc j) a b is_a is_b less free_a free_b has =
       let at_a : rank + suc i ≡ (rank + 1) + i = omega arith in
       let at_b : rank + suc j ≡ (rank + 1) + j = omega arith in
-      has_right (cond (is_free draft seed k c) (encounters_with draft seed k rank c (rank + 1) mols) []) (encounters_from draft seed k (rank + 1) mols) e
+      has_right (cond (is_free draft seed k c) (encounters_with draft seed k rank c (rank + 1) mols) [])
+      (encounters_from draft seed k (rank + 1) mols) e
       (are_from (rank + 1) mols e i j a b is_a is_b (omega (arith, less)) free_a free_b
       (subst (λ n. Has (encounters_of_two draft seed k ((rank + 1) + i) a n b 0 draft.reactions) e) at_b
       (subst (λ n. Has (encounters_of_two draft seed k n a (rank + suc j) b 0 draft.reactions) e) at_a has)))

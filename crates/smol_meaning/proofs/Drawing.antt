@@ -16,12 +16,14 @@ module _ (species word : ℕ) where
   abbrev words : List Reaction → ℕ → ℕ
   words reactions count = sum_by (share_of species) (take count reactions)
 
-  words_more : (reaction : Reaction) (reactions : List Reaction) (i : ℕ) → words (reaction ∷ reactions) (i + 1) ≡ share_of species reaction + words reactions i
+  words_more : (reaction : Reaction) (reactions : List Reaction) (i : ℕ) → words (reaction ∷ reactions)
+      (i + 1) ≡ share_of species reaction + words reactions i
   words_more reaction reactions i =
       let next : i + 1 ≡ suc i = omega arith in
       ap (words (reaction ∷ reactions)) next ∙ sum_by-cons (share_of species) reaction (take i reactions)
 
-  words_suc : (reaction : Reaction) (reactions : List Reaction) (i : ℕ) → words (reaction ∷ reactions) (suc i) ≡ share_of species reaction + words reactions i
+  words_suc : (reaction : Reaction) (reactions : List Reaction) (i : ℕ) → words (reaction ∷ reactions)
+      (suc i) ≡ share_of species reaction + words reactions i
   words_suc reaction reactions i = sum_by-cons (share_of species) reaction (take i reactions)
 
   -- where those before have so many words, the word is one of those of the reaction at this place
@@ -30,24 +32,36 @@ module _ (species word : ℕ) where
     from : passed + words reactions i ≤ word
     below : word < passed + words reactions (i + 1)
 
-  drawn_holds : (passed number : ℕ) (reactions : List Reaction) (r : ℕ) → passed ≤ word → reaction_drawn species passed number reactions word ≡ Some r
+  drawn_holds : (passed number : ℕ) (reactions : List Reaction) (r : ℕ) → passed ≤ word
+      → reaction_drawn species passed number reactions word ≡ Some r
       → (i : ℕ) × (r ≡ number + i) × Holds passed reactions i
   drawn_holds passed number [] r over is = absurd (cc)
   drawn_holds passed number (reaction ∷ reactions) r over is =
       ⊎_elim here
       (λ e.
-      later (drawn_holds (passed + share_of species reaction) (number + 1) reactions r (ltb-false word (passed + share_of species reaction) e)
+      later (drawn_holds (passed + share_of species reaction) (number + 1) reactions r
+      (ltb-false word (passed + share_of species reaction) e)
       (sym (cond-false (nat_lt word (passed + share_of species reaction)) _ _ e) ∙ is)))
       (cases_Bool (nat_lt word (passed + share_of species reaction)))
     where
       here : nat_lt word (passed + share_of species reaction) ≡ true → (i : ℕ) × (r ≡ number + i) × Holds passed (reaction ∷ reactions) i
       here e =
-          let same : number ≡ r = let s : Some number ≡ Some r = sym (cond-true (nat_lt word (passed + share_of species reaction)) _ _ e) ∙ is in cc in
+          let same : number ≡ r = let s : Some number ≡ Some r = sym (cond-true (nat_lt word (passed + share_of species reaction)) _ _ e)
+          ∙ is in cc in
           let less = ltb-true word (passed + share_of species reaction) e in
-          let none : words (reaction ∷ reactions) 0 ≡ 0 = refl in
-          (0, omega (arith, same), record { there = omega arith; from = omega (arith, over, none); below = omega (arith, less, words_more reaction reactions 0) })
+          let none : words (reaction ∷ reactions) 0 ≡ 0 = refl in (
+            0,
+            omega (arith, same),
+            record {
+              there = omega arith;
+              from = omega (arith, over, none);
+              below = omega
+                  (arith, less, words_more reaction reactions 0);
+            },
+          )
 
-      later : (i : ℕ) × (r ≡ (number + 1) + i) × Holds (passed + share_of species reaction) reactions i → (i : ℕ) × (r ≡ number + i) × Holds passed (reaction ∷ reactions) i
+      later : (i : ℕ) × (r ≡ (number + 1) + i) × Holds (passed + share_of species reaction) reactions i → (i : ℕ) × (r ≡ number + i)
+          × Holds passed (reaction ∷ reactions) i
       later rest =
           let first = words_suc reaction reactions rest.0 in
           let next = words_more reaction reactions (suc rest.0) in
@@ -62,12 +76,14 @@ module _ (species word : ℕ) where
             },
           )
 
-  holds_drawn : (passed number : ℕ) (reactions : List Reaction) (i : ℕ) → Holds passed reactions i → reaction_drawn species passed number reactions word ≡ Some (number + i)
+  holds_drawn : (passed number : ℕ) (reactions : List Reaction) (i : ℕ) → Holds passed reactions i
+      → reaction_drawn species passed number reactions word ≡ Some (number + i)
   holds_drawn passed number [] i holds = absurd (let l = holds.there in omega (arith, l))
   holds_drawn passed number (reaction ∷ reactions) zero holds =
       let less : word < passed + share_of species reaction = let b = holds.below in omega (arith, b, words_more reaction reactions 0) in
       let same : number ≡ number + 0 = omega arith in
-      cond-true (nat_lt word (passed + share_of species reaction)) _ _ (lt-ltb word (passed + share_of species reaction) less) ∙ ap Some same
+      cond-true (nat_lt word (passed + share_of species reaction)) _ _ (lt-ltb word (passed + share_of species reaction) less)
+      ∙ ap Some same
   holds_drawn passed number (reaction ∷ reactions) (suc i) holds =
       let first = words_suc reaction reactions i in
       let next = words_more reaction reactions (suc i) in

@@ -105,8 +105,10 @@ module _ (draft : Draft) (seed k : ℕ) (mols : List Mol) where
 
   may_react_by : (e : Encounter) (is : MayMeet draft seed k mols e) → may_react draft seed k is.reaction e ≡ true
   may_react_by e is =
-      and_from (reacts_together e.a.species e.b.species is.reaction.reactants) _ (together e.a.species e.b.species is.reaction.reactants is.species)
-      (and_from (are_near is.reaction.radius e.a.place e.b.place) _ (near_from is.reaction.radius e.a.place e.b.place is.radius is.given is.near)
+      and_from (reacts_together e.a.species e.b.species is.reaction.reactants) _
+      (together e.a.species e.b.species is.reaction.reactants is.species)
+      (and_from (are_near is.reaction.radius e.a.place e.b.place) _
+      (near_from is.reaction.radius e.a.place e.b.place is.radius is.given is.near)
       (and_from (not (are_hidden draft e.a e.b)) _ (not_from_false (are_hidden draft e.a e.b) is.seen)
       (lt-ltb (pair_word seed e.rank_a e.rank_b k e.reaction) is.reaction.threshold.0 is.word)))
 
@@ -118,7 +120,8 @@ module _ (draft : Draft) (seed k : ℕ) (mols : List Mol) where
       let at_one : e.rank_a ≡ 0 + e.rank_a = omega arith in
       let at_other : e.rank_b ≡ 0 + e.rank_b = omega arith in
       let here : encounter e.rank_a e.a e.rank_b e.b (0 + e.reaction) ≡ e = ap (encounter e.rank_a e.a e.rank_b e.b) at in
-      let may : may_react draft seed k is.reaction (encounter e.rank_a e.a e.rank_b e.b (0 + e.reaction)) ≡ true = ap (may_react draft seed k is.reaction) here ∙ may_react_by e is in
+      let may : may_react draft seed k is.reaction (encounter e.rank_a e.a e.rank_b e.b (0 + e.reaction)) ≡ true = ap
+      (may_react draft seed k is.reaction) here ∙ may_react_by e is in
       let two = subst (Has (encounters_of_two draft seed k e.rank_a e.a e.rank_b e.b 0 draft.reactions)) here
       (are_two draft seed k e.rank_a e.a e.rank_b e.b 0 draft.reactions e.reaction is.reaction is.listed may) in
       are_from draft seed k 0 mols e e.rank_a e.rank_b e.a e.b is.first is.second is.apart
@@ -127,7 +130,11 @@ module _ (draft : Draft) (seed k : ℕ) (mols : List Mol) where
       (subst (λ n. Has (encounters_of_two draft seed k e.rank_a e.a n e.b 0 draft.reactions) e) at_other two))
 
   pub may_meet : (e : Encounter) → Contains (encounters_of draft seed k mols) e ↔ MayMeet draft seed k mols e
-  may_meet e = (λ has. meets e (has_contained (encounters_of draft seed k mols) e has), λ is. contains_had (encounters_of draft seed k mols) e (met e is))
+  may_meet e = (
+    λ has. meets e (has_contained (encounters_of draft seed k mols) e has),
+    λ is. contains_had
+        (encounters_of draft seed k mols) e (met e is),
+  )
 
   -- a candidate is the pair of one of them
   mapped : (es : List Encounter) (pair : Pair) → Has (map pair_of es) pair → (e : Encounter) × (pair_of e ≡ pair) × Has es e
@@ -140,7 +147,8 @@ module _ (draft : Draft) (seed k : ℕ) (mols : List Mol) where
   maps (f ∷ es) e (inl is) = inl (ap pair_of is)
   maps (f ∷ es) e (inr has) = inr (maps es e has)
 
-  pub is_candidate : (pair : Pair) → Contains (candidates_of draft seed k mols) pair ↔ ((e : Encounter) × (pair_of e ≡ pair) × MayMeet draft seed k mols e)
+  pub is_candidate : (pair : Pair) → Contains (candidates_of draft seed k mols) pair ↔
+      ((e : Encounter) × (pair_of e ≡ pair) × MayMeet draft seed k mols e)
   is_candidate pair = (
     λ has.
         let found = mapped (encounters_of draft seed k mols) pair (has_contained (candidates_of draft seed k mols) pair has) in

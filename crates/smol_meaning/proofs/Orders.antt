@@ -55,11 +55,13 @@ module _ (draft : Draft) (seed k : ℕ) where
   two_of rank_a a rank_b b number [] = All-nil (IsOf a b number)
   two_of rank_a a rank_b b number (reaction ∷ reactions) =
       go (may_react draft seed k reaction (encounter rank_a a rank_b b number))
-      (All-weaker (IsOf a b (number + 1)) (IsOf a b number) (λ e is. record { first = is.first; second = is.second; from = let f = is.from in omega (arith, f) }) _
+      (All-weaker (IsOf a b (number + 1)) (IsOf a b number)
+      (λ e is. record { first = is.first; second = is.second; from = let f = is.from in omega (arith, f) }) _
       (two_of rank_a a rank_b b (number + 1) reactions))
     where
       go : (here : Bool) → All (IsOf a b number) (encounters_of_two draft seed k rank_a a rank_b b (number + 1) reactions)
-          → All (IsOf a b number) (cond here (encounter rank_a a rank_b b number ∷ encounters_of_two draft seed k rank_a a rank_b b (number + 1) reactions)
+          → All (IsOf a b number) (cond here
+          (encounter rank_a a rank_b b number ∷ encounters_of_two draft seed k rank_a a rank_b b (number + 1) reactions)
           (encounters_of_two draft seed k rank_a a rank_b b (number + 1) reactions))
       go true rest = All-cons (IsOf a b number) _ _ (record { first = refl; second = refl; from = omega arith }) rest
       go false rest = rest
@@ -74,9 +76,14 @@ module _ (draft : Draft) (seed k : ℕ) where
       before f is = inr (sym is.first, inr (sym is.second, let l = is.from in omega (arith, l)))
 
       go : (here : Bool) → InOrder (encounters_of_two draft seed k rank_a a rank_b b (number + 1) reactions)
-          → InOrder (cond here (encounter rank_a a rank_b b number ∷ encounters_of_two draft seed k rank_a a rank_b b (number + 1) reactions)
+          → InOrder (cond here (encounter rank_a a rank_b b number ∷ encounters_of_two draft seed k rank_a a rank_b b
+          (number + 1) reactions)
           (encounters_of_two draft seed k rank_a a rank_b b (number + 1) reactions))
-      go true rest = (All-weaker (IsOf a b (number + 1)) (Before (encounter rank_a a rank_b b number)) before _ (two_of rank_a a rank_b b (number + 1) reactions), rest)
+      go true rest = (
+        All-weaker (IsOf a b (number + 1)) (Before (encounter rank_a a rank_b b number)) before _
+            (two_of rank_a a rank_b b (number + 1) reactions),
+        rest,
+      )
       go false rest = rest
 
   with_of : (rank_a : ℕ) (a : Mol) (rank_b low next : ℕ) (mols : List Mol) → Ascend low next mols
@@ -87,7 +94,8 @@ module _ (draft : Draft) (seed k : ℕ) where
       (taken_all (IsWith a low) (is_free draft seed k b) (encounters_of_two draft seed k rank_a a rank_b b 0 draft.reactions)
       (All-weaker (IsOf a b 0) (IsWith a low) (λ e is. record { first = is.first; second = let s = is.second in omega (arith, s, up.0) }) _
       (two_of rank_a a rank_b b 0 draft.reactions)))
-      (All-weaker (IsWith a (b.serial + 1)) (IsWith a low) (λ e is. record { first = is.first; second = let s = is.second in omega (arith, s, up.0) }) _
+      (All-weaker (IsWith a (b.serial + 1)) (IsWith a low)
+      (λ e is. record { first = is.first; second = let s = is.second in omega (arith, s, up.0) }) _
       (with_of rank_a a (rank_b + 1) (b.serial + 1) next mols up.1))
 
   with_order : (rank_a : ℕ) (a : Mol) (rank_b low next : ℕ) (mols : List Mol) → Ascend low next mols
@@ -97,7 +105,8 @@ module _ (draft : Draft) (seed k : ℕ) where
       let behind = encounters_with draft seed k rank_a a (rank_b + 1) mols in
       let all = with_of rank_a a (rank_b + 1) (b.serial + 1) next mols up.1 in
       joined _ behind
-      (taken_order (is_free draft seed k b) (encounters_of_two draft seed k rank_a a rank_b b 0 draft.reactions) (two_order rank_a a rank_b b 0 draft.reactions))
+      (taken_order (is_free draft seed k b) (encounters_of_two draft seed k rank_a a rank_b b 0 draft.reactions)
+      (two_order rank_a a rank_b b 0 draft.reactions))
       (with_order rank_a a (rank_b + 1) (b.serial + 1) next mols up.1)
       (taken_all (λ e. All (Before e) behind) (is_free draft seed k b) (encounters_of_two draft seed k rank_a a rank_b b 0 draft.reactions)
       (All-weaker (IsOf a b 0) (λ e. All (Before e) behind) (λ e of.
@@ -112,7 +121,8 @@ module _ (draft : Draft) (seed k : ℕ) where
       (taken_all (IsFrom low) (is_free draft seed k a) (encounters_with draft seed k rank a (rank + 1) mols)
       (All-weaker (IsWith a (a.serial + 1)) (IsFrom low) (λ e is. let f = is.first in omega (arith, f, up.0)) _
       (with_of rank a (rank + 1) (a.serial + 1) next mols up.1)))
-      (All-weaker (IsFrom (a.serial + 1)) (IsFrom low) (λ e is. omega (arith, is, up.0)) _ (from_of (rank + 1) (a.serial + 1) next mols up.1))
+      (All-weaker (IsFrom (a.serial + 1)) (IsFrom low) (λ e is. omega (arith, is, up.0)) _
+      (from_of (rank + 1) (a.serial + 1) next mols up.1))
 
   from_order : (rank low next : ℕ) (mols : List Mol) → Ascend low next mols → InOrder (encounters_from draft seed k rank mols)
   from_order rank low next [] up = tt
@@ -120,7 +130,8 @@ module _ (draft : Draft) (seed k : ℕ) where
       let behind = encounters_from draft seed k (rank + 1) mols in
       let all = from_of (rank + 1) (a.serial + 1) next mols up.1 in
       joined _ behind
-      (taken_order (is_free draft seed k a) (encounters_with draft seed k rank a (rank + 1) mols) (with_order rank a (rank + 1) (a.serial + 1) next mols up.1))
+      (taken_order (is_free draft seed k a) (encounters_with draft seed k rank a (rank + 1) mols)
+      (with_order rank a (rank + 1) (a.serial + 1) next mols up.1))
       (from_order (rank + 1) (a.serial + 1) next mols up.1)
       (taken_all (λ e. All (Before e) behind) (is_free draft seed k a) (encounters_with draft seed k rank a (rank + 1) mols)
       (All-weaker (IsWith a (a.serial + 1)) (λ e. All (Before e) behind) (λ e with_.
