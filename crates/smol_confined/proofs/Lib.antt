@@ -13,3 +13,4 @@ pub mod Listed
 pub mod Quiet
 pub mod Holding
 pub mod Walled
+pub mod Exemplary

@@ -7,6 +7,7 @@ ghost use Rattle.smol_types.specs.declared.wall.Wall.{Wall};
 ghost use Rattle.smol_types.specs.Sound.{IsSound};
 ghost use Rattle.smol_meaning.specs.Box.{IsClosed};
 ghost use Rattle.smol_meaning.specs.Seen.{IsClosedBox, plates_of};
+ghost use Rattle.smol_confined.specs.Example.{HasBoxAndDoors, small_box};
 ghost use Rattle.smol_confined.specs.Built.{IsBuilt, IsNoJumpIn, box_of_walls};
 
 /// Panels that reflect on the side of the box, or walls of the letter r, at each face on the axes in use make a closed reflecting
@@ -27,4 +28,10 @@ pub fn walls_that_reflect_make_a_box()
     ensures every { (draft : Draft) → IsSound draft → All (λ (wall : Wall). wall.letter ≡ R) draft.walls
         → ((species : ℕ) → species < length draft.species → All (IsNoJumpIn draft species (box_of_walls draft.walls)) draft.panels)
         → IsClosedBox draft (box_of_walls draft.walls) }
+{}
+
+/// So six panels that reflect inwards make a box for both species of a configuration, within periodic walls and with a jump between
+/// two panels elsewhere.
+pub fn six_panels_within_periodic_walls_make_a_box()
+    ensures { (draft : Draft) → IsSound draft → HasBoxAndDoors draft → IsClosedBox draft small_box }
 {}
