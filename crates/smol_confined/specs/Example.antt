@@ -67,7 +67,8 @@ box_and_doors = low_x ∷ high_x ∷ low_y ∷ high_y ∷ low_z ∷ high_z ∷ n
 -- a surface whose fronts reflect two species, and one whose faces jump
 abbrev pub surfaces_of_both : List Surface
 surfaces_of_both =
-    record { front = Reflect ∷ Reflect ∷ []; back = Transmit ∷ Transmit ∷ [] } ∷ record { front = Jump ∷ Jump ∷ []; back = Jump ∷ Jump ∷ [] } ∷ []
+    record { front = Reflect ∷ Reflect ∷ []; back = Transmit ∷ Transmit ∷ [] }
+    ∷ record { front = Jump ∷ Jump ∷ []; back = Jump ∷ Jump ∷ [] } ∷ []
 
 abbrev pub periodic : ℕ → ℤ → Bool → Wall
 periodic axis plane upper = record { axis = axis; plane = plane; upper = upper; letter = P }
