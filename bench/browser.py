@@ -6,6 +6,7 @@ import shutil
 import subprocess
 import tempfile
 import time
+import urllib.parse
 
 # Without a graphics card the browser draws WebGL by a processor, with SwiftShader; here it does so always, so that pictures and times
 # are alike on every machine.
@@ -96,7 +97,7 @@ class Browser:
 
     def open(self, path):
         """Opens a page and waits until it says that it is drawn."""
-        self.ask("Page.navigate", url="file://" + __import__("urllib.parse").parse.quote(os.path.abspath(path)))
+        self.ask("Page.navigate", url="file://" + urllib.parse.quote(os.path.abspath(path)))
         self.until("document.documentElement?.dataset.drawn")
 
     def get(self, expression):
@@ -134,6 +135,9 @@ class Browser:
         for piece in range(1, pieces + 1):
             self.mouse("mouseMoved", x + (to_x - x) * piece / pieces, y + (to_y - y) * piece / pieces, 1)
         self.mouse("mouseReleased", to_x, to_y)
+
+    def wheel(self, x, y, down):
+        self.ask("Input.dispatchMouseEvent", type="mouseWheel", x=x, y=y, deltaX=0, deltaY=down)
 
     def key(self, key, code=None):
         text = key if len(key) == 1 else ""
