@@ -10,7 +10,7 @@ import urllib.parse
 
 # Without a graphics card the browser draws WebGL by a processor, with SwiftShader; here it does so always, so that pictures and times
 # are alike on every machine.
-FLAGS = ["--headless=new", "--no-sandbox", "--use-angle=swiftshader", "--enable-unsafe-swiftshader", "--hide-scrollbars", "--disable-gpu-vsync",
+FLAGS = ["--headless=new", "--no-sandbox", "--disable-gpu", "--enable-unsafe-swiftshader", "--hide-scrollbars", "--disable-gpu-vsync",
          "--disable-background-networking", "--disable-component-update", "--disable-sync", "--no-first-run", "--remote-debugging-pipe",
          "--host-resolver-rules=MAP * ~NOTFOUND"]
 

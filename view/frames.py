@@ -7,6 +7,7 @@ what the file's commands print goes nowhere.
 """
 import base64
 import contextlib
+import itertools
 import os
 import subprocess
 import tempfile
@@ -37,7 +38,7 @@ class Frames:
     """The molecules at some moments of a run, at most so many a moment; which, is chosen by their serials and is the same each time.
 
     `times` are as the program prints them, `counts` those of all molecules, for each moment and species. `molecules` are the chosen
-    ones, for each moment and species a list of serials and one of coordinates, `dims` for each molecule.
+    ones, for each moment and species their serials and, for each axis, their coordinates.
     """
 
     dims: int
@@ -49,44 +50,50 @@ class Frames:
     below: int = KEYS
 
     def read(self, lines):
-        """Takes the lines that the copy's own commands print: at each moment one of counts, and one for each molecule."""
+        """Takes the lines that the copy's own commands print: at each moment one of counts, and then one for each molecule. A moment
+        that is cut off is left out."""
         numbers = {name.encode() + b"(solution)": number for number, name in enumerate(self.species)}
-        serials = places = None
+        wide = self.dims + 2
         for line in lines:
-            words = line.split()
-            number = numbers.get(words[0])
-            if number is None:
-                self._end_moment()
-                self.times.append(words[0].decode())
-                self.counts.append([int(word) for word in words[1:]])
-                serials, places = [array("Q") for _ in self.species], [array("d") for _ in self.species]
-                self.molecules.append(list(zip(serials, places)))
-            else:
-                serial = int(words[-1])
-                if key_of(serial) < self.below:
-                    serials[number].append(serial)
-                    places[number].extend(map(float, words[1:-1]))
-        self._end_moment()
+            time, *counts = line.split()
+            counts = list(map(int, counts))
+            listed = list(itertools.islice(lines, sum(counts)))
+            if len(listed) < sum(counts) or not (listed or [line])[-1].endswith(b"\n"):
+                break
+            if self.times and self.times[-1] == time.decode():
+                continue  # the last moment, listed again
+            words = b"".join(listed).split()
+            of = [numbers[name] for name in words[::wide]]
+            serials = list(map(int, words[wide - 1::wide]))
+            columns = [list(map(float, words[1 + axis::wide])) for axis in range(self.dims)]
+            order = sorted(range(len(of)), key=of.__getitem__)
+            moment, start = [], 0
+            for count in counts:
+                kept = order[start:start + count]
+                moment.append((array("Q", [serials[at] for at in kept]), [array("d", [column[at] for at in kept]) for column in columns]))
+                start += count
+            self.times.append(time.decode())
+            self.counts.append(counts)
+            self.molecules.append(self._fewer(moment))
         self.molecules = [self._chosen(moment) for moment in self.molecules]
 
-    def _end_moment(self):
-        """Chooses fewer where the last moment has too many, and leaves it out where it is the one before, listed again."""
-        if len(self.times) > 1 and self.times[-1] == self.times[-2]:
-            for moments in (self.times, self.counts, self.molecules):
-                moments.pop()
-        elif self.molecules and sum(len(serials) for serials, _ in self.molecules[-1]) > self.most:
-            self.below = sorted(key_of(serial) for serials, _ in self.molecules[-1] for serial in serials)[self.most]
-            self.molecules[-1] = self._chosen(self.molecules[-1])
+    def _fewer(self, moment):
+        """The molecules of a moment that are chosen, from now on fewer than before where it has too many."""
+        moment = self._chosen(moment)
+        if sum(len(serials) for serials, _ in moment) > self.most:
+            self.below = sorted(key_of(serial) for serials, _ in moment for serial in serials)[self.most]
+            moment = self._chosen(moment)
+        return moment
 
     def _chosen(self, moment):
         """The molecules of a moment that are chosen by now."""
         if self.below == KEYS:
             return moment
         chosen = []
-        for serials, places in moment:
-            kept = [at for at, serial in enumerate(serials) if key_of(serial) < self.below]
-            chosen.append((array("Q", [serials[at] for at in kept]),
-                           array("d", [place for at in kept for place in places[at * self.dims:(at + 1) * self.dims]])))
+        for serials, columns in moment:
+            is_kept = [key_of(serial) < self.below for serial in serials]
+            chosen.append((array("Q", itertools.compress(serials, is_kept)),
+                           [array("d", itertools.compress(column, is_kept)) for column in columns]))
         return chosen
 
     def packed(self):
@@ -98,25 +105,26 @@ class Frames:
         """
         low, high = [], []
         for axis in range(self.dims):
-            columns = [places[axis::self.dims] for moment in self.molecules for _, places in moment if places]
-            low.append(min(map(min, columns), default=0.0))
-            high.append(max(map(max, columns), default=0.0))
-        packer = zlib.compressobj(6)
-        packed = b"".join(packer.compress(self._whole(serials, places, low, high))
-                          for moment in self.molecules for serials, places in moment)
+            all_columns = [columns[axis] for moment in self.molecules for _, columns in moment if columns[axis]]
+            low.append(min(map(min, all_columns), default=0.0))
+            high.append(max(map(max, all_columns), default=0.0))
+        packer = zlib.compressobj(1)
+        packed = b"".join(packer.compress(self._whole(serials, columns, low, high))
+                          for moment in self.molecules for serials, columns in moment)
         return {"times": self.times, "counts": self.counts, "shown": [[len(serials) for serials, _ in moment] for moment in self.molecules],
                 "low": low, "high": high, "places": base64.b64encode(packed + packer.flush()).decode()}
 
-    def _whole(self, serials, places, low, high):
-        columns = []
-        for axis in range(self.dims):
-            scale = FINEST / ((high[axis] - low[axis]) or 1)
-            columns.append([int((place - low[axis]) * scale + 0.5) for place in places[axis::self.dims]])
+    def _whole(self, serials, columns, low, high):
+        """The coordinates of these molecules as whole numbers, molecule by molecule."""
+        whole_columns = []
+        for column, least, most in zip(columns, low, high):
+            scale = FINEST / ((most - least) or 1)
+            whole_columns.append([int((place - least) * scale + 0.5) for place in column])
         if self.dims == 1:
-            columns.append([key_of(serial) >> 16 for serial in serials])
-        whole = array("H", bytes(2 * len(columns) * len(serials)))
-        for axis, column in enumerate(columns):
-            whole[axis::len(columns)] = array("H", column)
+            whole_columns.append([key_of(serial) >> 16 for serial in serials])
+        whole = array("H", bytes(2 * len(whole_columns) * len(serials)))
+        for axis, column in enumerate(whole_columns):
+            whole[axis::len(whole_columns)] = array("H", column)
         return little_endian(whole).tobytes()
 
 

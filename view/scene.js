@@ -47,7 +47,8 @@ class Scene {
     this.measure();
 
     this.renderer = new THREE.WebGLRenderer({ antialias: !bySoftware, preserveDrawingBuffer: false });
-    this.renderer.setPixelRatio(bySoftware ? 1 : Math.min(window.devicePixelRatio, 2));
+    this.fine = bySoftware ? 1 : Math.min(window.devicePixelRatio, 2);
+    this.renderer.setPixelRatio(this.fine);
     this.renderer.setClearColor("#ffffff");
     this.labels = new THREE.CSS2DRenderer();
     this.labels.domElement.id = "labels";
@@ -439,9 +440,28 @@ class Scene {
     this.isDirty = true;
   }
 
+  // Draws coarsely while frames follow one another slowly, and finely again when nothing changes any more.
+  pace(now) {
+    const pause = now - (this.drawnAt ?? 0);
+    if (this.isDirty) {
+      this.pause = pause < 1000 ? 0.7 * (this.pause ?? 0) + 0.3 * pause : 0;
+      this.drawnAt = now;
+      if (this.pause > 120 && !this.isCoarse) this.setCoarse(true);
+    } else if (this.isCoarse && pause > 400) {
+      this.setCoarse(false);
+    }
+  }
+
+  setCoarse(isCoarse) {
+    this.isCoarse = isCoarse;
+    this.renderer.setPixelRatio(isCoarse ? this.fine / 3 : this.fine);
+    this.isDirty = true;
+  }
+
   // Draws, where something has changed since it was drawn last. Says whether it did.
-  draw() {
+  draw(now) {
     this.controls.update();
+    this.pace(now);
     if (!this.isDirty) return false;
     this.rescale();
     this.isDirty = false;
