@@ -8,9 +8,11 @@
 #SBATCH --cpus-per-task=1
 set -eu +f
 [ $# = 1 ] || [ $# = 2 ] || { echo "usage: sbatch --array=FROM-TO bin/ensemble.slurm FILE [FOLDER]" >&2 && exit 1; }
-file=$(readlink -f -- "$1")
+file=$(readlink -m -- "$1" && echo x) # the line feeds at a name's end stay
+file=${file%$'\nx'}
 seed=${SLURM_ARRAY_TASK_ID:?run it by sbatch --array}
 folder=${2-$1.runs}/$seed
 mkdir -p -- "$folder"
 cd -- "$folder"
+trap '' XFSZ # a file that may not grow is a failed write then, and no signal
 exec "${SMOL:-smol}" "$file" --seed "$seed" >stdout 2>stderr

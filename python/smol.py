@@ -449,7 +449,8 @@ class _Children:
         with self._lock:
             if self._is_over:
                 raise concurrent.futures.CancelledError
-            child = subprocess.Popen(words, cwd=folder, stdin=subprocess.DEVNULL, stdout=stdout, stderr=stderr)
+            # Signals that Python ignores stay ignored: a file that may not grow is a failed write, status 4, and no signal.
+            child = subprocess.Popen(words, cwd=folder, stdin=subprocess.DEVNULL, stdout=stdout, stderr=stderr, restore_signals=False)
             self._running.add(child)
         try:
             return child.wait()

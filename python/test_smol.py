@@ -147,6 +147,11 @@ class Faults(Folder):
         error = self.fault(smol.OutputError, BOX + f"output_files {self.folder}/nowhere/f\n")
         self.assertEqual(error.status, 4)
 
+    def test_4_a_file_that_may_not_grow(self):
+        with mock.patch.dict(os.environ, SMOL=self.script(f'ulimit -f 0; exec "{smol.program()}" "$@"')):
+            error = self.fault(smol.OutputError, BOX + 'output_files f\ncmd b echo f "x"\n')
+        self.assertEqual((error.status, dict(error.result.files)), (4, {"f": ""}))
+
     def test_5_no_memory(self):
         with mock.patch.dict(os.environ, SMOL=self.script(f'ulimit -v 12000; exec "{smol.program()}" "$@"')):
             error = self.fault(smol.MemoryRanOutError, BOX + "max_mol 1000000\nmol 1000000 A 5\n")

@@ -169,7 +169,7 @@ def run(program, contents, seed, frames, every=None):
                 file.write(b"".join(line + b"\n" for line in text))
             words = [program, path] + ([] if seed is None else ["--seed", str(seed)])
             child = subprocess.Popen(words, cwd=room, stdin=subprocess.DEVNULL, stdout=subprocess.DEVNULL, stderr=told,
-                                     pass_fds=[end.fileno()])
+                                     pass_fds=[end.fileno()], restore_signals=False)
         try:
             frames.read(lines)
             status = child.wait()

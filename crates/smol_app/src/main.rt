@@ -1,41 +1,36 @@
 //! The program: the words of the command line over real files and standard streams.
 #![tactic(auto)]
 
+mod descriptors;
+mod exit;
+mod words;
+
+use descriptors::hold_closed;
+use exit::exit_of;
 use smol_edge::{FileSource, Open, RealOutlets};
 use smol_run::{Status, run_program};
 use std::alloc::AllocError;
 use std::env;
-use std::io::ErrorKind;
+use std::fs::File;
 use std::process::ExitCode;
 use std::rt::{Env, Files};
 use std::thread::Threads;
+use words::words_of;
 
-// The words behind the program's name. Words that are no text stand for none, which is refused.
-fn words_of<R: AllocGlobal + Env>(rt: &R) -> Result<Vec<String>, AllocError> {
-    let mut words = Vec::new(rt.alloc());
-    match env::args(rt) {
-        Ok(args) => {
-            for word in args.skip(1) {
-                words.push(word)?;
-            }
-            Ok(words)
-        }
-        Err(error) if error.kind() == ErrorKind::OutOfMemory => Err(AllocError),
-        Err(_) => Ok(words),
-    }
-}
-
+// Without the descriptors of the standard streams nothing is opened.
 fn run<R>(rt: &R) -> Result<Status, AllocError>
 where
-    R: AllocGlobal + Env + Eprint + Files + Print + Sync + Threads,
+    R: AllocGlobal + Env + Eprint + Files<File = File> + Print + Sync + Threads,
 {
-    let words = words_of(rt)?;
+    let Ok(_held) = hold_closed(rt) else {
+        return Ok(Status::Output);
+    };
+    let words = words_of(rt.alloc(), env::args(rt))?;
     let mut source = FileSource::of(rt);
     let mut outlets = RealOutlets::of(rt, rt.alloc())?;
     Ok(run_program(rt, rt.alloc(), &words, &mut source, &mut outlets, &Open))
 }
 
 fn main(rt: HostRuntime) -> ExitCode {
-    let status = run(&rt).unwrap_or(Status::Memory);
-    ExitCode::from(status.code())
+    ExitCode::from(exit_of(run(&rt)))
 }

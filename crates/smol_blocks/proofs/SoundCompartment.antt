@@ -193,12 +193,10 @@ unfolding end_compartment_in
 compartment_sound dims surface_count before line compartment is sound =
     let words = held (length (words_of line) == 1) WrongWordCount _ _ compartment is in
     let some = held (nat_lt 0 (length (points_given before))) (Missing Point) [] _ compartment words.1 in
-    let there : 0 < length (points_given before) = is_below 0 (length (points_given before)) some.0 in
     subst (IsCompartment dims surface_count) (same_value (compartment_of before) compartment some.1)
     (record {
       bound_count = sound.bound_count;
       bounds = sound.bounds;
-      some_point = there;
       point_count = sound.point_count;
       points = sound.points;
     })
@@ -208,7 +206,6 @@ pub compartment_wider : (dims surface_count more : ℕ) → surface_count ≤ mo
 compartment_wider dims surface_count more fits compartment sound = record {
   bound_count = sound.bound_count;
   bounds = All-weaker (λ (surface : ℕ). surface < surface_count) (λ (surface : ℕ). surface < more) (λ surface below. omega (arith, fits, below)) compartment.surfaces sound.bounds;
-  some_point = sound.some_point;
   point_count = sound.point_count;
   points = sound.points;
 }

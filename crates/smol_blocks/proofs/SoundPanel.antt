@@ -1,5 +1,5 @@
 -- The rectangle that a line without a fault gives is one that a panel may have.
-use Rattle.std.proofs.Common.{◌≡◌, ℕ, zero, suc, ℤ, pos, negsuc, ◌+◌, ◌<◌, ◌≤◌, ◌≤ℤ◌, ◌+ℤ◌, ◌==◌, Bool, true, false, nat_le, nat_lt, List, [], ◌∷◌, length, Option, None, Some, Result, Ok, Err, unsigned_abs, if◌then◌else◌, refl, sym, arith, subst}
+use Rattle.std.proofs.Common.{◌≡◌, ℕ, zero, suc, ℤ, pos, negsuc, ◌+◌, ◌<◌, ◌≤◌, ◌≤ℤ◌, ◌<ℤ◌, ◌+ℤ◌, ◌==◌, Bool, true, false, nat_le, nat_lt, List, [], ◌∷◌, length, Option, None, Some, Result, Ok, Err, unsigned_abs, if◌then◌else◌, refl, sym, arith, subst}
 use Rattle.std.proofs.lemmas.Bool.Decides.{nat_tests}
 use Rattle.std.proofs.lemmas.Int.{ints}
 use Rattle.smol_geom.specs.declared.rect.Rect.{Rect}
@@ -8,6 +8,7 @@ use Rattle.smol_text.specs.Reading.{Stated, words_of}
 use Rattle.smol_types.specs.declared.fault.Kind.{Kind}
 use Rattle.smol_types.specs.declared.fault.Kind.TheVariants.{NotInProfile, OutOfRange, TooMany, WrongWordCount}
 use Rattle.smol_types.specs.Limits.{farthest, most_panels}
+use Rattle.smol_types.specs.Panels.{IsEdge}
 use Rattle.smol_line.specs.Length.{micros_in, most_micros}
 use Rattle.smol_line.specs.Words.{word_at}
 use Rattle.smol_line.proofs.Passing.{valued, held, no_value, same_value}
@@ -27,6 +28,7 @@ record IsReach (dims across axis : ℕ) (corner extent : ℤ) : Type 0 where
   high_unused : dims ≤ axis → ticks_of (corner +ℤ extent) ≡ pos 2
   ordered : ticks_of corner ≤ℤ ticks_of (corner +ℤ extent)
   flat : across ≡ axis → ticks_of corner ≡ ticks_of (corner +ℤ extent)
+  edge : IsEdge (axis == across) (ticks_of corner) (ticks_of (corner +ℤ extent))
 
 -- ticks of a place of whole micros are even
 ticks_even : (x : ℤ) → IsEven (ticks_of x)
@@ -36,9 +38,17 @@ ticks_even x = omega (arith, ints)
 ticks_size : (x : ℤ) → negsuc 999999999999 ≤ℤ x → x ≤ℤ pos most_micros → unsigned_abs (ticks_of x) ≤ farthest
 ticks_size x low high = omega (arith, ints)
 
+-- a low end below a high end
+edge_of : (flat : Bool) (low high : ℤ) → low <ℤ high → IsEdge flat low high
+edge_of true low high below = tt
+edge_of false low high below = below
+
 -- on an axis in use
-used_reach : (dims across axis : ℕ) (corner extent : ℤ) → axis < dims → negsuc 999999999999 ≤ℤ corner → pos 0 ≤ℤ extent → (corner +ℤ extent) ≤ℤ pos most_micros → (across ≡ axis → extent ≡ pos 0) → IsReach dims across axis corner extent
-used_reach dims across axis corner extent used low grows high flat = record {
+used_reach : (dims across axis : ℕ) (corner extent : ℤ) → axis < dims → negsuc 999999999999 ≤ℤ corner → pos 0 ≤ℤ extent
+    → (corner +ℤ extent) ≤ℤ pos most_micros → (across ≡ axis → extent ≡ pos 0)
+    → IsEdge (axis == across) (ticks_of corner) (ticks_of (corner +ℤ extent))
+    → IsReach dims across axis corner extent
+used_reach dims across axis corner extent used low grows high flat long = record {
   low_size = ticks_size corner low (omega (arith, ints));
   high_size = ticks_size (corner +ℤ extent) (omega (arith, ints)) high;
   low_even = ticks_even corner;
@@ -47,6 +57,7 @@ used_reach dims across axis corner extent used low grows high flat = record {
   high_unused = λ beyond. absurd (omega (arith, used, beyond));
   ordered = omega (arith, ints);
   flat = λ same. let none = flat same in omega (arith, ints);
+  edge = long;
 }
 
 -- on an axis that isn't in use
@@ -63,25 +74,28 @@ unused_reach dims across axis corner extent within beyond zero_is one_is =
       high_unused = λ _. refl;
       ordered = omega (arith, ints);
       flat = λ same. absurd (omega (arith, within, beyond, same));
+      edge = edge_of (axis == across) _ _ (omega (arith, ints));
     }))
 
 -- on any axis, by whether it is in use and whether the rectangle lies across it
 chosen_reach : (used flat : Bool) (dims across axis : ℕ) (word edge : List ℕ) (corner extent : ℤ) → used ≡ nat_lt axis dims → flat ≡ (axis == across) → across < dims
     → (if used then micros_in word else Ok (pos 0)) ≡ Ok corner → (if used then (if flat then Ok (pos 0) else edge_in corner edge) else Ok (pos 1)) ≡ Ok extent
     → IsReach dims across axis corner extent
-chosen_reach true true dims across axis word edge corner extent used flat within at reach =
+chosen_reach true true dims across axis word edge corner extent used flat_is within at reach =
     let size = decimal_in-within 6 (negsuc 999999999999) (pos most_micros) word corner at in
     let low = size.0 in
     let high = size.1 in
     let none : pos 0 ≡ extent = same_value (pos 0) extent reach in
     used_reach dims across axis corner extent (grind (arith, nat_tests)) low (omega (arith, ints)) (omega (arith, ints)) (λ _. sym none)
-chosen_reach true false dims across axis word edge corner extent used flat within at reach =
+    (subst (λ (flat : Bool). IsEdge flat (ticks_of corner) (ticks_of (corner +ℤ extent))) flat_is tt)
+chosen_reach true false dims across axis word edge corner extent used flat_is within at reach =
     let size = decimal_in-within 6 (negsuc 999999999999) (pos most_micros) word corner at in
     let long = decimal_in-within 6 (pos 1) _ edge extent reach in
     let low = size.0 in
     let least = long.0 in
     let most = long.1 in
     used_reach dims across axis corner extent (grind (arith, nat_tests)) low (omega (arith, ints)) (omega (arith, ints)) (λ same. absurd (grind (arith, nat_tests)))
+    (subst (λ (flat : Bool). IsEdge flat (ticks_of corner) (ticks_of (corner +ℤ extent))) flat_is (omega (arith, ints)))
 chosen_reach false flat dims across axis word edge corner extent used flat_is within at reach =
     unused_reach dims across axis corner extent within (grind (arith, nat_tests)) (same_value (pos 0) corner at) (same_value (pos 1) extent reach)
 
@@ -124,6 +138,7 @@ rect_sound dims across line rect few within is =
         ordered = (p.ordered, q.ordered, r.ordered);
       };
       across = within;
+      edges = (p.edge, q.edge, r.edge);
       low_count = refl;
       high_count = refl;
       low_size = (p.low_size, q.low_size, r.low_size);

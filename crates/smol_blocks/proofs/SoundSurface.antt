@@ -131,6 +131,7 @@ panels_from_sound dims surface_count surface others panels all lines number (rec
     (record {
       rect = first.rect_is;
       across = first.across;
+      edges = first.edges;
       low_count = first.low_count;
       high_count = first.high_count;
       low_size = first.low_size;
@@ -171,6 +172,7 @@ panel_wider dims surface_count wider panels more fits panel sound =
     record {
       rect = sound.rect;
       across = sound.across;
+      edges = sound.edges;
       low_count = sound.low_count;
       high_count = sound.high_count;
       low_size = sound.low_size;

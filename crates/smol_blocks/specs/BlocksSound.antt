@@ -7,7 +7,7 @@ use Rattle.smol_types.specs.declared.surface.Face.{Face}
 use Rattle.smol_types.specs.declared.surface.Face.TheVariants.{Front, Back}
 use Rattle.smol_types.specs.Compartments.{IsCompartment, IsPoint}
 use Rattle.smol_types.specs.Limits.{farthest, most_bounds, most_compartments, most_panels, most_points, most_surfaces}
-use Rattle.smol_types.specs.Panels.{IsCongruent, IsPanel}
+use Rattle.smol_types.specs.Panels.{HasEdges, IsCongruent, IsPanel}
 use Rattle.smol_blocks.specs.Blocks.{Block, no_block, in_surface, in_compartment, BlockSaid, block_of, surface_names, surfaces_of, panels_of, compartment_names, compartments_of}
 use Rattle.smol_blocks.specs.Compartment.{CompartmentSaid, surfaces_named, points_given}
 use Rattle.smol_blocks.specs.Surface.{SurfaceSaid, led_to, panel_names_of, rects_of, sides_of}
@@ -16,6 +16,7 @@ use Rattle.smol_blocks.specs.Surface.{SurfaceSaid, led_to, panel_names_of, rects
 pub record IsPanelRectIn (dims : ℕ) (rect : Rect) : Type 0 where
   pub rect_is : IsRect rect
   pub across : rect.axis < dims
+  pub edges : HasEdges rect
   pub low_count : length rect.low ≡ 3
   pub high_count : length rect.high ≡ 3
   pub low_size : IsWithin farthest rect.low

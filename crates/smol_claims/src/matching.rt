@@ -14,7 +14,8 @@ use std::marker::Sync;
 use std::thread::{Threads, for_each_mut};
 
 /// Whether each pair fires, as serial matching decides it, by so many workers, each in a thread of its own where one
-/// can be made. The gate may hold a worker, and changes no answer.
+/// can be made. No more of them work than there are slices to take, so that few pairs start no thread, and no pairs
+/// take no memory. The gate may hold a worker, and changes no answer.
 pub fn match_pairs<R: Threads + Sync, G: Gate>(
     rt: &R,
     alloc: Global,
@@ -27,10 +28,27 @@ pub fn match_pairs<R: Threads + Sync, G: Gate>(
     requires few { workers ≤ 16 }
     ensures serial { IfOk result (λ fired. fired.items ≡ serial pairs.items) }
 {
+    if pairs.is_empty() {
+        return Ok(Vec::new(alloc));
+    }
     let plan = Plan::of_pairs(rt, alloc, pairs)?;
-    let (claims, mut hands) = Claims::open(alloc, plan, workers)?;
+    let useful = useful_workers(workers, plan.slices());
+    let (claims, mut hands) = Claims::open(alloc, plan, useful)?;
     run_all(rt, &claims, &mut hands, gate);
     Ok(claims.close(hands))
+}
+
+// So many workers, but no more than there are slices: another one would find none to take. At least one.
+fn useful_workers(workers: u32, slices: usize) -> u32
+    requires { 1 ≤ workers }
+    ensures some { 1 ≤ result }
+    ensures few { result ≤ workers }
+{
+    if slices < workers as usize {
+        (slices as u32).max(1)
+    } else {
+        workers
+    }
 }
 
 // Runs each worker, in a thread of its own where one can be made.

@@ -30,7 +30,7 @@ use Rattle.smol_cmd.specs.Who.{who_in}
 use Rattle.smol_cmd.specs.Probability.{probability_in}
 use Rattle.smol_cmd.specs.Outlet.{outlet_in}
 use Rattle.smol_cmd.specs.Echo.{quoted_in, rest_behind, spelled}
-use Rattle.smol_cmd.specs.Act.{act_in, act_of, count_within_in, echo_in, kill_in, kill_prob_in, place_in, point_source_in, positions_in, print_in, replace_in, verb_in}
+use Rattle.smol_cmd.specs.Act.{act_in, act_of, count_within_in, echo_in, echo_parts_in, kill_in, kill_prob_in, place_in, point_source_in, positions_in, print_in, replace_in, verb_in}
 use Rattle.smol_cmd.specs.Test.{asked_in, condition_in, condition_words, test_in, test_of}
 use Rattle.smol_cmd.specs.Cmd.{cmd_in, command_in, command_of}
 use Rattle.smol_cmd.proofs.Values.{outlet_is, probability_is, when_is, who_is}
@@ -64,13 +64,20 @@ positions_is known line at found is =
     subst (Does known) (same_value (act.Positions who.0 out.0) found out.2)
     (who_is known.species (word_at line (at + 1)) who.0 who.1, outlet_is known.outputs (word_at line (at + 2)) out.0 out.1)
 
+echo_parts_are : (known : Known) (line : Stated) (at : ℕ) (parts : ℕ × List ℕ) → echo_parts_in known line at ≡ Ok parts
+    → IsOutlet (length known.outputs) parts.0
+unfolding echo_parts_in
+echo_parts_are known line at parts is =
+    let bytes = valued (there (quoted_in (rest_behind (at + 1) line.part)) WrongWordCount) _ parts is in
+    let out = valued (outlet_in known.outputs (word_at line (at + 1))) _ parts bytes.2 in
+    subst (λ (parts : ℕ × List ℕ). IsOutlet (length known.outputs) parts.0) (same_value (out.0, bytes.0) parts out.2)
+    (outlet_is known.outputs (word_at line (at + 1)) out.0 out.1)
+
 echo_is : (known : Known) (line : Stated) (at : ℕ) (found : Act) → echo_in known line at ≡ Ok found → Does known found
 unfolding echo_in
 echo_is known line at found is =
-    let bytes = valued (there (quoted_in (rest_behind (at + 1) line.part)) WrongWordCount) _ found is in
-    let out = valued (outlet_in known.outputs (word_at line (at + 1))) _ found bytes.2 in
-    subst (Does known) (same_value (act.Echo out.0 (spelled bytes.0)) found out.2)
-    (outlet_is known.outputs (word_at line (at + 1)) out.0 out.1)
+    let parts = valued (echo_parts_in known line at) _ found is in
+    subst (Does known) (same_value (act.Echo parts.0.0 (spelled parts.0.1)) found parts.2) (echo_parts_are known line at parts.0 parts.1)
 
 kill_is : (known : Known) (line : Stated) (at : ℕ) (found : Act) → kill_in known line at ≡ Ok found → Does known found
 unfolding kill_in
@@ -220,16 +227,14 @@ pub commands_are_few : (known : Known) (count : ℕ) (line : Stated) (command : 
 commands_are_few known count line command is = let given = given_is known count line command is in given.room
 
 -- more species, compartments and files keep commands sound
-species_stay : (least old new : ℕ) (who : List ℕ) → old ≤ new → AreSpecies least old who → AreSpecies least new who
-species_stay least old new [] more are = tt
-species_stay least old new (species ∷ who) more are =
-    let below = are.1 in
-    (are.0, omega arith, species_stay (species + 1) old new who more are.2)
+species_stay : (old new : ℕ) (who : List ℕ) → old ≤ new → AreSpecies old who → AreSpecies new who
+species_stay old new who more are =
+    All-weaker (λ (species : ℕ). species < old) (λ (species : ℕ). species < new) (λ species below. omega (arith, more, below)) who are
 
 test_stays : (old new : ℕ) → old ≤ new → (one : Test) → IsTest old one → IsTest new one
-test_stays old new more (test.IfNo who) is = species_stay 0 old new who more is
-test_stays old new more (test.IfLess who n) is = (species_stay 0 old new who more is.0, is.1)
-test_stays old new more (test.IfMore who n) is = (species_stay 0 old new who more is.0, is.1)
+test_stays old new more (test.IfNo who) is = species_stay old new who more is
+test_stays old new more (test.IfLess who n) is = (species_stay old new who more is.0, is.1)
+test_stays old new more (test.IfMore who n) is = (species_stay old new who more is.0, is.1)
 
 act_stays : (a b c a_new b_new c_new : ℕ) (walls : List Wall) (one : Act) → a ≤ a_new → b ≤ b_new → c ≤ c_new → IsAct a b c walls one → IsAct a_new b_new c_new walls one
 act_stays a b c a_new b_new c_new walls (act.CountHeader out) more_a more_b more_c is = omega arith
@@ -241,13 +246,13 @@ act_stays a b c a_new b_new c_new walls (act.CountIn compartment out) more_a mor
 act_stays a b c a_new b_new c_new walls (act.List out) more_a more_b more_c is = omega arith
 act_stays a b c a_new b_new c_new walls (act.Positions who out) more_a more_b more_c is =
     let second = is.1 in
-    (species_stay 0 a a_new who more_a is.0, omega arith)
+    (species_stay a a_new who more_a is.0, omega arith)
 act_stays a b c a_new b_new c_new walls (act.Echo out text) more_a more_b more_c is = omega arith
-act_stays a b c a_new b_new c_new walls (act.Kill who) more_a more_b more_c is = species_stay 0 a a_new who more_a is
-act_stays a b c a_new b_new c_new walls (act.KillProb who p) more_a more_b more_c is = (species_stay 0 a a_new who more_a is.0, is.1)
+act_stays a b c a_new b_new c_new walls (act.Kill who) more_a more_b more_c is = species_stay a a_new who more_a is
+act_stays a b c a_new b_new c_new walls (act.KillProb who p) more_a more_b more_c is = (species_stay a a_new who more_a is.0, is.1)
 act_stays a b c a_new b_new c_new walls (act.Replace who to p) more_a more_b more_c is =
     let second = is.1 in
-    (species_stay 0 a a_new who more_a is.0, omega arith, is.2)
+    (species_stay a a_new who more_a is.0, omega arith, is.2)
 act_stays a b c a_new b_new c_new walls (act.PointSource species n place) more_a more_b more_c is =
     let first = is.0 in
     (omega arith, is.1, is.2, is.3)

@@ -4,6 +4,7 @@ use Rattle.std.specs.List.{range_with_len}
 use Rattle.std.specs.Str.{bytes_eq}
 use Rattle.std.proofs.lemmas.Bool.Decides.{nat_tests}
 use Rattle.std.proofs.lemmas.Int.{ints}
+use Rattle.std.proofs.lemmas.List.Elements.{All-nil, All-cons}
 use Rattle.std.proofs.lemmas.List.Quantifiers.{position-Some}
 use Rattle.smol_num.specs.declared.quantities.Threshold.{Threshold}
 use Rattle.smol_text.specs.Reading.{Stated, words_of}
@@ -88,10 +89,12 @@ when_is line found is =
     subst (λ (found : When × ℕ). IsWhen found.0) (same_value (moment.0, 1 + timing_words timing.0) found moment.2)
     (due_is timing.0 line moment.0 moment.1)
 
--- numbers in a row ascend
-ascending : (least first n count : ℕ) → least ≤ first → first + n ≤ count → AreSpecies least count (range_with_len first n)
-ascending least first zero count from to = tt
-ascending least first (suc n) count from to = (from, omega arith, ascending (first + 1) (first + 1) n count (omega arith) (omega arith))
+-- numbers in a row are those of species, where the last one is
+in_a_row : (first n count : ℕ) → first + n ≤ count → AreSpecies count (range_with_len first n)
+in_a_row first zero count to = All-nil (λ (species : ℕ). species < count)
+in_a_row first (suc n) count to =
+    All-cons (λ (species : ℕ). species < count) first (range_with_len (first + 1) n) (omega arith)
+    (in_a_row (first + 1) n count (omega arith))
 
 -- species that a word means are there
 abbrev AreThere : ℕ → Chosen → Type 0
@@ -108,14 +111,14 @@ chosen_is true names word chosen is =
     subst (AreThere (length names)) (same_value (record { first = 0; end = length names }) chosen is) (omega arith, omega arith)
 chosen_is false names word chosen is = one_is (length names) (species_word_in names word) chosen (species_word_in-within names word) is
 
-pub who_is : (species : List (List ℕ)) (word : List ℕ) (who : List ℕ) → who_in species word ≡ Ok who → AreSpecies 0 (length species) who
+pub who_is : (species : List (List ℕ)) (word : List ℕ) (who : List ℕ) → who_in species word ≡ Ok who → AreSpecies (length species) who
 who_is species word who is =
     let chosen = valued (chosen_in species word) _ who is in
     let there = chosen_is (bytes_eq word (codes "all")) species word chosen.0 chosen.1 in
     let ordered = there.0 in
     let within = there.1 in
-    subst (AreSpecies 0 (length species)) (same_value (numbers_of chosen.0) who chosen.2)
-    (ascending 0 chosen.0.first _ (length species) (omega arith) (omega arith))
+    subst (AreSpecies (length species)) (same_value (numbers_of chosen.0) who chosen.2)
+    (in_a_row chosen.0.first _ (length species) (omega arith))
 
 -- an outlet is one of those that there are
 file_is : (outputs : List (List ℕ)) (word : List ℕ) (place : Option ℕ) (out : ℕ) → position (bytes_eq word) outputs ≡ place → file_outlet place ≡ Ok out → IsOutlet (length outputs) out

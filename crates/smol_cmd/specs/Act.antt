@@ -75,12 +75,15 @@ positions_in known line at =
     with_value (outlet_in known.outputs (word_at line (at + 2))) (λ out.
     Ok (act.Positions who out))))
 
--- `echo OUT "TEXT"`: the rest of the line behind OUT stands between quotation marks, and this counts as the number of its words
-unfoldable pub echo_in : Known → Stated → ℕ → Result Act Kind
-echo_in known line at =
+-- the outlet of an `echo`, and the bytes between the quotation marks of the rest of the line behind OUT
+unfoldable pub echo_parts_in : Known → Stated → ℕ → Result (ℕ × List ℕ) Kind
+echo_parts_in known line at =
     with_value (there (quoted_in (rest_behind (at + 1) line.part)) WrongWordCount) (λ bytes.
-    with_value (outlet_in known.outputs (word_at line (at + 1))) (λ out.
-    Ok (act.Echo out (spelled bytes))))
+    with_value (outlet_in known.outputs (word_at line (at + 1))) (λ out. Ok (out, bytes)))
+
+-- `echo OUT "TEXT"`: that there are the marks counts as the number of its words
+unfoldable pub echo_in : Known → Stated → ℕ → Result Act Kind
+echo_in known line at = with_value (echo_parts_in known line at) (λ parts. Ok (act.Echo parts.0 (spelled parts.1)))
 
 -- `killmol SPECIES+`
 unfoldable pub kill_in : Known → Stated → ℕ → Result Act Kind

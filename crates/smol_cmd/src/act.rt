@@ -1,11 +1,11 @@
 //! COMMAND and its words: what a command does.
-ghost use Rattle.std.specs.Prelude.{◌≡◌, ◌+◌, ◌<◌, ◌≤◌, length, pos};
+ghost use Rattle.std.specs.Prelude.{◌≡◌, ◌+◌, ◌<◌, ◌≤◌, length, pos, Err, IfErr, IfOk, Ok};
 ghost use Rattle.smol_text.specs.Reading.{words_of};
 ghost use Rattle.smol_line.specs.Answers.{Answers};
 ghost use Rattle.smol_line.specs.Axes.{read_axis};
 ghost use Rattle.smol_line.specs.Coordinate.{coordinate_in};
 ghost use Rattle.smol_cmd.specs.Known.{AreFew};
-ghost use Rattle.smol_cmd.specs.Act.{act_in, act_of, count_within_in, echo_in, kill_in, kill_prob_in, place_in, point_source_in, positions_in, print_in, replace_in, stop_in};
+ghost use Rattle.smol_cmd.specs.Act.{act_in, act_of, count_within_in, echo_in, echo_parts_in, kill_in, kill_prob_in, place_in, point_source_in, positions_in, print_in, replace_in, stop_in};
 
 use crate::echo::{quoted_in, rest_behind, spelled};
 use crate::known::Known;
@@ -76,7 +76,27 @@ fn positions_in(
     Ok(Act::Positions { who, out })
 }
 
-// `echo OUT "TEXT"`. The shape of the text comes before OUT.
+// The outlet of an `echo`, and the bytes between its quotation marks. The shape of the text comes before OUT. Takes no memory.
+#[tactic(auto, unfolding(crate::specs::Act::echo_parts_in))]
+fn echo_parts_in<'a>(
+    known: &Known<'_>,
+    line: &StatedLine<'a>,
+    at: usize,
+) -> Result<(u32, &'a [u8]), Kind>
+    requires few { AreFew known.now }
+    requires within { at < length (words_of line.now) }
+    ensures accepted { IfOk result (λ parts. echo_parts_in known.now line.now at ≡ Ok (parts.0, parts.1.now)) }
+    ensures refused { IfErr result (λ kind. echo_parts_in known.now line.now at ≡ Err kind) }
+{
+    let behind = at + (line.len() - at).min(1);
+    let Some(bytes) = quoted_in(rest_behind(behind, line.part())) else {
+        return Err(Kind::WrongWordCount);
+    };
+    let out = outlet_in(known.outputs(), word_behind(line, at, 1))?;
+    Ok((out, bytes))
+}
+
+// `echo OUT "TEXT"`.
 #[tactic(auto, unfolding(crate::specs::Act::echo_in))]
 fn echo_in(
     alloc: Global,
@@ -88,11 +108,7 @@ fn echo_in(
     requires within { at < length (words_of line.now) }
     ensures { Answers (echo_in known.now line.now at) result }
 {
-    let behind = at + (line.len() - at).min(1);
-    let Some(bytes) = quoted_in(rest_behind(behind, line.part())) else {
-        return Err(Refusal::At(Kind::WrongWordCount));
-    };
-    let out = outlet_in(known.outputs(), word_behind(line, at, 1))?;
+    let (out, bytes) = echo_parts_in(known, line, at)?;
     let text = spelled(alloc, bytes)?;
     Ok(Act::Echo { out, text })
 }

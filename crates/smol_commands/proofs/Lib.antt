@@ -3,4 +3,5 @@ mod Marks
 mod SpeciesCounts
 mod Ranks
 mod Added
+mod Spaced
 pub mod Effects

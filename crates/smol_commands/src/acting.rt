@@ -21,7 +21,8 @@ use smol_streams::Streams;
 use smol_types::{Act, Config, State};
 use std::alloc::Global;
 
-/// Performs the command of this number at a state. After want of memory nothing is said of the state and the pages.
+/// Performs the command of this number at a state. Where it would make too many molecules, nothing is done: the state and the
+/// pages are as they were. After want of memory nothing is said of them.
 pub fn perform(
     alloc: Global,
     config: &Config,
@@ -41,6 +42,7 @@ pub fn perform(
     ensures too_many { IsErrOf result CommandFault.TooManyMolecules
         → (performed_at config.now streams.old c state.old).ending ≡ Over state.old.step }
     ensures unchanged { IsErrOf result CommandFault.TooManyMolecules → state.new ≡ state.old }
+    ensures nothing_printed { IsErrOf result CommandFault.TooManyMolecules → out.new ≡ out.old }
     ensures seed { streams.new ≡ streams.old }
 {
     let command = &config.commands()[c as usize];
@@ -72,6 +74,7 @@ fn act(
     ensures too_many { IsErrOf result CommandFault.TooManyMolecules
         → (effect_of config.now streams.old c state.old act.now).ending ≡ Over state.old.step }
     ensures unchanged { IsErrOf result CommandFault.TooManyMolecules → state.new ≡ state.old }
+    ensures nothing_printed { IsErrOf result CommandFault.TooManyMolecules → out.new ≡ out.old }
     ensures seed { streams.new ≡ streams.old }
 {
     match act {

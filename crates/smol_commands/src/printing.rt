@@ -12,8 +12,9 @@ ghost use Rattle.smol_commands.specs.Performs.{Adds};
 use crate::counting::{counts_inside, counts_of};
 use crate::meant::is_meant;
 use crate::timing::time_of;
+use smol_geom::Place;
 use smol_print::{
-    Pages, add_time, end_line, line_of_counts, line_of_header, line_of_mol, place_behind_space,
+    Pages, add_time, end_line, line_of_counts, line_of_header, line_of_mol, line_of_place,
 };
 use smol_types::{Config, Mol};
 use std::alloc::{AllocError, Global};
@@ -123,6 +124,7 @@ pub fn print_positions(
     out: &mut Pages,
 ) -> Result<(), AllocError>
     requires outlet { outlet < length out.old }
+    requires axes { 0 < config.now.dims }
     requires step { step ≤ last_step config.now.start config.now.stop config.now.step }
     ensures { OnOk result (Adds
         ((outlet, positions_line config.now (time_of config.now step) (filter (is_meant who.now) mols.now)) ∷ [])
@@ -145,11 +147,21 @@ fn add_positions(
     who: &[u16],
     page: &mut Vec<u8>,
 ) -> Result<(), AllocError>
+    requires { 0 < config.now.dims }
     ensures { OnOk result (page.new.items ≡ page.old.items ++ positions_line config.now time (filter (is_meant who.now) mols.now)) }
 {
     add_time(page, time)?;
     add_places(config, mols, who, page)?;
     end_line(page)
+}
+
+// Adds the coordinates of a place, each behind a space.
+fn add_place(config: &Config, place: &Place, page: &mut Vec<u8>) -> Result<(), AllocError>
+    requires { 0 < config.now.dims }
+    ensures { OnOk result (page.new.items ≡ page.old.items ++ place_text config.now place.now) }
+{
+    page.push(b' ')?;
+    line_of_place(config, place, page)
 }
 
 // Adds the coordinates of the molecules meant.
@@ -159,12 +171,13 @@ fn add_places(
     who: &[u16],
     page: &mut Vec<u8>,
 ) -> Result<(), AllocError>
+    requires { 0 < config.now.dims }
     ensures { OnOk result (page.new.items ≡ page.old.items
         ++ flat_map (λ (mol : TheMol). place_text config.now mol.place) (filter (is_meant who.now) mols.now)) }
 {
     for mol in mols {
         if is_meant(who, mol) {
-            place_behind_space(config, &mol.place, page)?;
+            add_place(config, &mol.place, page)?;
         }
     }
     Ok(())

@@ -40,7 +40,6 @@ axis_is axis = record {
   lower_size = omega arith;
   upper_size = omega arith;
   ordered = omega (arith, ints);
-  one_letter = refl;
 }
 
 pub walls_are : AreWalls 0 walls
@@ -70,7 +69,6 @@ around_is compartment point bounds points is = record {
   bound_count = subst (λ (surfaces : List ℕ). length surfaces ≤ 16) (sym bounds) (omega arith);
   bounds = subst (All (λ (surface : ℕ). surface < 1)) (sym bounds)
       (All-cons (λ (surface : ℕ). surface < 1) 0 [] (omega arith) (All-nil (λ (surface : ℕ). surface < 1)));
-  some_point = subst (λ (all : List Place). 0 < length all) (sym points) (omega arith);
   point_count = subst (λ (all : List Place). length all ≤ 16) (sym points) (omega arith);
   points = subst (All (IsPoint 3)) (sym points) (All-cons (IsPoint 3) point [] is (All-nil (IsPoint 3)));
 }

@@ -1,5 +1,5 @@
 //! The molecules of a run before its first step.
-ghost use Rattle.std.specs.Prelude.{◌≡◌, ◌+◌, ◌^◌, ◌<◌, ◌≤◌, length, Ok, OnOk, IfErr, IfOk};
+ghost use Rattle.std.specs.Prelude.{◌≡◌, ◌+◌, ◌^◌, ◌<◌, ◌≤◌, length, Ok, OnOk, IfErr, IfOk, IsErrOf};
 ghost use Rattle.smol_types.specs.Placings.{IsPlacing, placed_by};
 ghost use Rattle.smol_types.specs.State.{Fits};
 ghost use Rattle.smol_meaning.specs.Placement.{opening_state, placed_many, placed_one, placed_together};
@@ -68,7 +68,7 @@ fn place_many(
     Ok(())
 }
 
-// The molecule of this serial that a statement places.
+// The molecule of this serial that a statement places. Takes no memory, and tells no want of it.
 fn place_one(
     config: &Config,
     streams: &mut Streams,
@@ -79,6 +79,7 @@ fn place_one(
     requires serial { serial < 2 ^ 62 }
     ensures placed { IfOk result (λ mol. placed_one config.now streams.old placing.now serial ≡ Ok mol) }
     ensures told { IfErr result (IsFaultOf (placed_one config.now streams.old placing.now serial)) }
+    ensures takes_none { IsErrOf result PlaceFault.OutOfMemory → ⊥ }
     ensures seed { streams.new ≡ streams.old }
 {
     match *placing {

@@ -118,7 +118,6 @@ walls_are_axis axis dims bounds sound = record {
   lower_size = doubled_size bounds.low.0 sound.low_size;
   upper_size = doubled_size bounds.high.0 sound.high_size;
   ordered = doubled_below bounds.low.0 bounds.high.0 sound.ordered;
-  one_letter = refl;
 }
 
 -- the walls of all axes in use

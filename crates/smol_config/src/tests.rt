@@ -614,3 +614,23 @@ fn species_that_round_to_rest_are_accepted(rt: HostRuntime) -> Result<(), Fail> 
     assert_eq!(rt; config.species().len(), 1);
     Ok(())
 }
+
+// A file that ends in `end_file`, with a block of each kind.
+const BOX: &str =
+    "# binding in a box\ngraphics opengl\ndim 3\nspecies A B C\ndifc A 3\ndifc B 3\ndifc C 1\ntime_start 0\ntime_stop 1\ntime_step 0.01\nboundaries x -10 110\nboundaries y -10 110\nboundaries z -10 110\nstart_surface box\naction both all reflect\ncolor both 0 0 1\npanel rect +0 0 0 0 100 100\npanel rect -0 100 0 0 100 100\npanel rect +1 0 0 0 100 100\npanel rect -1 0 100 0 100 100\npanel rect +2 0 0 0 100 100\npanel rect -2 0 0 100 100 100\nend_surface\nstart_compartment inside\nsurface box\npoint 50 50 50\nend_compartment\ncompartment_mol 500 A inside\ncompartment_mol 500 B inside\nreaction bind A + B -> C\nbinding_radius bind 1.5\ncmd b molcountheader stdout\ncmd n 10 molcount stdout\ncmd a molcountincmpt inside stdout\nend_file\n";
+
+// Cut off anywhere, the file is a configuration where its last line is whole, or a number in it is still one, nothing is missing
+// and no block is open: at 4 places each behind the walls of z and behind the radius, and at 2 behind each of 9 other lines.
+#[test]
+fn each_front_of_a_file_has_an_answer(rt: HostRuntime) -> Result<(), Fail> {
+    let text = BOX.as_bytes();
+    let mut accepted = 0u32;
+    for end in 0..text.len() + 1 {
+        match read_config(rt.alloc(), &text[..end]) {
+            Ok(_) => accepted += 1,
+            Err(fault) => assert!(rt; fault != ConfigFault::OutOfMemory, "{end}"),
+        }
+    }
+    assert_eq!(rt; accepted, 26);
+    Ok(())
+}

@@ -9,3 +9,8 @@ pub mod Leaving
 pub mod Barring
 pub mod Pairing
 pub mod Filling
+pub mod Listed
+pub mod Quiet
+pub mod Holding
+pub mod Walled
+pub mod Exemplary

@@ -1,2 +1,4 @@
 pub mod Boxes
+pub mod Built
+pub mod Example
 pub mod Laws

@@ -9,3 +9,4 @@ pub mod MemOutlets
 pub mod OutletBytes
 pub mod RealOutlets
 pub mod Meet
+pub mod Answers

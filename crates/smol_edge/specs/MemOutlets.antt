@@ -1,10 +1,12 @@
 -- Outlets in memory, as contracts see them.
-use Rattle.std.specs.Prelude.{◌≡◌, ℕ, ◌+◌, List, [], length, take, slice_index_or}
-use Rattle.smol_edge.specs.Faults.{RoseByOne}
+use Rattle.std.specs.Prelude.{◌≡◌, ◌⊎◌, ℕ, ◌+◌, List, [], length, take, slice_index_or}
+use Rattle.smol_edge.specs.Faults.{Rose, RoseByOne}
+use Rattle.smol_edge.specs.Calls.{IsNumbered}
 use Rattle.smol_edge.specs.Outlets.{Written}
 
 -- the names opened, the bytes of each outlet, how many bytes a write takes at most,
--- the numbers of the calls that are to fail, and how many calls were made and have failed
+-- the numbers of the calls that are to fail, how many calls were made and have failed,
+-- and how often they were refused memory
 pub record OutletsState : Type 0 where
   pub names : List (List ℕ)
   pub outlets : List (List ℕ)
@@ -12,6 +14,7 @@ pub record OutletsState : Type 0 where
   pub fails : List ℕ
   pub calls : ℕ
   pub faults : ℕ
+  pub shortages : ℕ
 
 -- the bytes of an outlet. One that isn't opened has none
 abbrev pub bytes_of : OutletsState → ℕ → List ℕ
@@ -26,3 +29,7 @@ pub record Counts (before after : OutletsState) : Type 0 where
   pub most : after.most ≡ before.most
   pub fails : after.fails ≡ before.fails
   pub calls : RoseByOne before.calls after.calls
+
+-- a call may fail for its number, or since memory was refused in it
+abbrev pub MayFail : OutletsState → OutletsState → Type 0
+MayFail before after = IsNumbered before.fails before.calls ⊎ Rose before.shortages after.shortages

@@ -1,7 +1,7 @@
 -- A source in memory, as contracts see it.
 use Rattle.std.specs.Prelude.{◌≡◌, ◌⊎◌, ℕ, List, [], ◌∷◌, Option, None, Some, if◌then◌else◌}
 use Rattle.std.specs.Str.{bytes_eq}
-use Rattle.smol_edge.specs.Faults.{RoseByOne}
+use Rattle.smol_edge.specs.Faults.{Rose, RoseByOne}
 use Rattle.smol_edge.specs.Calls.{IsNumbered}
 use Rattle.smol_edge.specs.Source.{Reading}
 
@@ -11,7 +11,8 @@ pub record File : Type 0 where
   pub bytes : List ℕ
 
 -- the files, the bytes left of the one that is open, the names asked for so far,
--- the numbers of the calls that are to fail, and how many calls were made and have failed
+-- the numbers of the calls that are to fail, how many calls were made and have failed,
+-- and how often it was refused memory
 pub record SourceState : Type 0 where
   pub files : List File
   pub left : List ℕ
@@ -19,6 +20,7 @@ pub record SourceState : Type 0 where
   pub fails : List ℕ
   pub calls : ℕ
   pub faults : ℕ
+  pub shortages : ℕ
 
 -- the bytes of the first file of that name
 abbrev pub contents_of : List File → List ℕ → Option (List ℕ)
@@ -35,8 +37,10 @@ pub record Counts (before after : SourceState) : Type 0 where
   pub fails : after.fails ≡ before.fails
   pub calls : RoseByOne before.calls after.calls
 
--- an opening may fail for its number, for a name that no file has, or for want of memory for the names
+-- an opening may fail for its number, for a name that no file has, or since memory was refused in it for the names
 -- asked for, which then stay
 abbrev pub MayFailToOpen : List ℕ → SourceState → SourceState → Type 0
 MayFailToOpen name before after =
-    IsNumbered before.fails before.calls ⊎ ((contents_of before.files name ≡ None) ⊎ (after.asked ≡ before.asked))
+    IsNumbered before.fails before.calls
+    ⊎ ((contents_of before.files name ≡ None)
+    ⊎ ((after.asked ≡ before.asked) × Rose before.shortages after.shortages))

@@ -1,12 +1,14 @@
 //! Real files as a source.
-ghost use Rattle.std.specs.Prelude.{◌≡◌, ℕ, None};
+ghost use Rattle.std.specs.Prelude.{◌≡◌, ◌≢◌, ◌≤◌, ℕ, length, None, IfOk, IfErr};
+ghost use Rattle.std.specs.IoError.{error_kind};
 
+use crate::answers::{or_fault, received};
 use crate::faults::count_fault;
 use crate::{Failed, Source};
-use std::fs;
-use std::io::Read;
+use std::io::{ErrorKind, Read};
 use std::marker::Model;
 use std::rt::Files;
+use std::{fs, io};
 
 /// Real files. They tell nothing, and contracts see a source of them as its count of faults. A read with
 /// no file open is a fault too.
@@ -45,28 +47,35 @@ impl<'a, R: Files> FileSource<'a, R> {
     }
 }
 
+// Asks the system for bytes, again where a signal interrupts that.
+fn read_some<F: Read>(file: &mut F, buf: &mut [u8]) -> io::Result<usize>
+    ensures within { IfOk result (λ n. n ≤ length buf.old) }
+    ensures made_again { IfErr result (λ error. error_kind error ≢ ErrorKind.Interrupted) }
+{
+    for _ in 0..u64::MAX {
+        match file.read(buf) {
+            Err(error) if error.kind() == ErrorKind::Interrupted => {}
+            answer => return answer,
+        }
+    }
+    Err(io::Error::from(ErrorKind::TimedOut))
+}
+
 impl<R: Files> Source for FileSource<'_, R> {
     ghost told = { λ _. None };
 
     ghost faults = { λ count. count };
 
     fn open(&mut self, name: &str) -> Result<(), Failed> {
-        match fs::open(self.rt, name) {
-            Ok(file) => {
-                self.file = Some(file);
-                Ok(())
-            }
-            Err(_) => Err(count_fault(&mut self.faults)),
-        }
+        let file = or_fault(fs::open(self.rt, name).ok(), &mut self.faults)?;
+        self.file = Some(file);
+        Ok(())
     }
 
     fn read(&mut self, buf: &mut [u8]) -> Result<usize, Failed> {
         let Some(file) = &mut self.file else {
             return Err(count_fault(&mut self.faults));
         };
-        match file.read(buf) {
-            Ok(count) => Ok(count),
-            Err(_) => Err(count_fault(&mut self.faults)),
-        }
+        or_fault(received(read_some(file, buf)), &mut self.faults)
     }
 }

@@ -1,8 +1,13 @@
 //! The edge of the program: where bytes come from, where they go, and where a worker may be held.
 #![tactic(auto)]
 
+#[cfg(test)]
+mod adapter_tests;
+mod answers;
 mod calls;
 mod failed;
+#[cfg(test)]
+mod fake;
 mod faults;
 mod file_source;
 mod gate;
@@ -11,6 +16,7 @@ mod mem_file;
 mod mem_files;
 mod mem_outlets;
 mod mem_source;
+mod memory;
 mod names;
 mod outlets;
 mod put;

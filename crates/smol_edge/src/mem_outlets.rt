@@ -3,9 +3,10 @@ ghost use Rattle.std.specs.Prelude.{◌≡◌, ◌⊎◌, ◌+◌, ◌^◌, ◌<
 ghost use Rattle.smol_edge.specs.Faults.{Rose, RoseByOne};
 ghost use Rattle.smol_edge.specs.Outlets.{Names, Appends};
 ghost use Rattle.smol_edge.specs.Calls.{IsNumbered};
-ghost use Rattle.smol_edge.specs.MemOutlets.{bytes_of, written_of, Counts};
+ghost use Rattle.smol_edge.specs.MemOutlets.{bytes_of, written_of, Counts, MayFail};
 
 use crate::calls::Calls;
+use crate::memory::Memory;
 use crate::names::add_name;
 use crate::{Failed, Outlets};
 use std::alloc::{AllocError, Global};
@@ -15,7 +16,7 @@ use std::marker::Model;
 /// told to fail at, counted from 1 over `write` and `open`.
 #[derive(Debug, Drop)]
 pub struct MemOutlets {
-    alloc: Global,
+    memory: Memory,
     names: Vec<String>,
     outlets: Vec<Vec<u8>>,
     most: usize,
@@ -35,13 +36,19 @@ impl Model for MemOutlets {
       fails = state.calls.fails.items;
       calls = state.calls.made;
       faults = state.calls.faults;
+      shortages = state.memory;
     } };
 
     ghost invariant = { λ state. (vec_len state.outlets ≡ 2 + vec_len state.names) × (0 < state.most) };
 }
 
 // Adds the bytes to the end of those of the outlet.
-fn append_to(outlets: &mut Vec<Vec<u8>>, outlet: usize, bytes: &[u8]) -> Result<(), AllocError>
+fn append_to(
+    memory: &mut Memory,
+    outlets: &mut Vec<Vec<u8>>,
+    outlet: usize,
+    bytes: &[u8],
+) -> Result<(), AllocError>
     requires { outlet < vec_len outlets.old }
     ensures appended { OnOk result (map (λ o. o.items) outlets.new.items ≡
         slice_set (map (λ o. o.items) outlets.old.items) outlet
@@ -49,9 +56,11 @@ fn append_to(outlets: &mut Vec<Vec<u8>>, outlet: usize, bytes: &[u8]) -> Result<
     ensures not_appended { OnErr result (map (λ o. o.items) outlets.new.items ≡ map (λ o. o.items) outlets.old.items) }
     ensures takes_room { OnErr result (0 < length bytes.now) }
     ensures len { vec_len outlets.new ≡ vec_len outlets.old }
+    ensures given { OnOk result (memory.new ≡ memory.old) }
+    ensures refused { OnErr result (RoseByOne memory.old memory.new) }
 {
     let written = &mut outlets[outlet];
-    written.extend_from_slice(bytes)?;
+    memory.append(written, bytes)?;
     Ok(())
 }
 
@@ -65,13 +74,14 @@ impl MemOutlets {
         ensures numbers { IfOk result (λ outlets. outlets.fails ≡ fail.now) }
         ensures no_calls { IfOk result (λ outlets. outlets.calls ≡ 0) }
         ensures no_faults { IfOk result (λ outlets. outlets.faults ≡ 0) }
+        ensures no_shortages { IfOk result (λ outlets. outlets.shortages ≡ 0) }
     {
         let calls = Calls::of(alloc, fail)?;
         let mut outlets = Vec::with_capacity(alloc, 2)?;
         outlets.push(Vec::new(alloc))?;
         outlets.push(Vec::new(alloc))?;
         Ok(MemOutlets {
-            alloc,
+            memory: Memory::of(alloc),
             names: Vec::new(alloc),
             outlets,
             most,
@@ -115,21 +125,26 @@ impl Outlets for MemOutlets {
         ensures faults_stay { self.old.faults ≤ self.new.faults }
         ensures cause { OnErr result (Rose self.old.faults self.new.faults) }
 
-        // It fails at its numbers. For want of memory it may fail elsewhere too, of which nothing can be seen.
+        // It fails at its numbers, and elsewhere only where memory was refused.
         ensures numbered { IsNumbered self.old.fails self.old.calls → IsErr result }
+        ensures fails_only { OnErr result (MayFail self.old self.new) }
+        ensures no_shortage { OnOk result (self.new.shortages ≡ self.old.shortages) }
 
         ensures counts { Counts self.old self.new }
         ensures no_fault { OnOk result (self.new.faults ≡ self.old.faults) }
         ensures one_fault { OnErr result (RoseByOne self.old.faults self.new.faults) }
     {
-        if self.calls.begin() || self.outlets.reserve(1).is_err() {
+        if self.calls.begin() {
             return Err(self.calls.fault());
         }
-        if add_name(self.alloc, &mut self.names, name).is_err() {
+        if self.memory.reserve(&mut self.outlets, 1).is_err() {
+            return Err(self.calls.fault());
+        }
+        if add_name(&mut self.memory, &mut self.names, name).is_err() {
             return Err(self.calls.fault());
         }
         let outlet = self.outlets.len() as u32;
-        self.outlets.push(Vec::new(self.alloc)).unwrap();
+        self.outlets.push(self.memory.list()).unwrap();
         Ok(outlet)
     }
 
@@ -143,9 +158,11 @@ impl Outlets for MemOutlets {
         ensures faults_stay { self.old.faults ≤ self.new.faults }
         ensures cause { OnErr result (Rose self.old.faults self.new.faults) }
 
-        // It fails at its numbers, and elsewhere at most for want of memory, which bytes alone take.
+        // It fails at its numbers, and elsewhere only where memory was refused, which bytes alone take.
         ensures numbered { IsNumbered self.old.fails self.old.calls → IsErr result }
-        ensures fails_only { OnErr result (IsNumbered self.old.fails self.old.calls ⊎ (0 < length bytes.now)) }
+        ensures fails_only { OnErr result (MayFail self.old self.new) }
+        ensures no_shortage { OnOk result (self.new.shortages ≡ self.old.shortages) }
+        ensures takes_room { OnErr result (IsNumbered self.old.fails self.old.calls ⊎ (0 < length bytes.now)) }
         ensures as_many_as_allowed { IfOk result (λ n. n ≡ min (length bytes.now) self.old.most) }
 
         ensures counts { Counts self.old self.new }
@@ -156,7 +173,14 @@ impl Outlets for MemOutlets {
             return Err(self.calls.fault());
         }
         let count = bytes.len().min(self.most);
-        if append_to(&mut self.outlets, outlet as usize, &bytes[..count]).is_err() {
+        if append_to(
+            &mut self.memory,
+            &mut self.outlets,
+            outlet as usize,
+            &bytes[..count],
+        )
+        .is_err()
+        {
             return Err(self.calls.fault());
         }
         Ok(count)

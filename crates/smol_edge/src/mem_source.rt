@@ -8,6 +8,7 @@ ghost use Rattle.smol_edge.specs.MemSource.{reading_of, Counts, MayFailToOpen};
 use crate::calls::Calls;
 use crate::mem_file::MemFile;
 use crate::mem_files::{bytes_left, find_file};
+use crate::memory::Memory;
 use crate::names::add_name;
 use crate::{Failed, Source};
 use std::alloc::{AllocError, Global};
@@ -17,7 +18,7 @@ use std::marker::Model;
 /// from 1 over `open` and `read`, and at a name that it doesn't hold.
 #[derive(Debug, Drop)]
 pub struct MemSource {
-    alloc: Global,
+    memory: Memory,
     files: Vec<MemFile>,
     place: usize,
     position: usize,
@@ -39,6 +40,7 @@ impl Model for MemSource {
       fails = source.calls.fails.items;
       calls = source.calls.made;
       faults = source.calls.faults;
+      shortages = source.memory;
     } };
 }
 
@@ -56,6 +58,7 @@ impl MemSource {
         ensures numbers { IfOk result (λ source. source.fails ≡ fail.now) }
         ensures no_calls { IfOk result (λ source. source.calls ≡ 0) }
         ensures no_faults { IfOk result (λ source. source.faults ≡ 0) }
+        ensures no_shortages { IfOk result (λ source. source.shortages ≡ 0) }
     {
         let file = MemFile {
             name: String::from_str(alloc, name)?,
@@ -64,7 +67,7 @@ impl MemSource {
         let calls = Calls::of(alloc, fail)?;
         let files = vec![in alloc; file]?;
         Ok(MemSource {
-            alloc,
+            memory: Memory::of(alloc),
             files,
             place: 1,
             position: 0,
@@ -92,16 +95,17 @@ impl Source for MemSource {
         ensures faults_stay { self.old.faults ≤ self.new.faults }
         ensures cause { OnErr result (Rose self.old.faults self.new.faults) }
 
-        // It fails at its numbers and at unknown names, and nowhere else but for want of memory.
+        // It fails at its numbers and at unknown names, and elsewhere only where memory was refused.
         ensures numbered { IsNumbered self.old.fails self.old.calls → IsErr result }
         ensures fails_only { OnErr result (MayFailToOpen name.now self.old self.new) }
+        ensures no_shortage { OnOk result (self.new.shortages ≡ self.old.shortages) }
 
         ensures counted { Counts self.old self.new }
         ensures no_fault { OnOk result (self.new.faults ≡ self.old.faults) }
         ensures one_fault { OnErr result (RoseByOne self.old.faults self.new.faults) }
     {
         let is_numbered = self.calls.begin();
-        if add_name(self.alloc, &mut self.asked, name).is_err() {
+        if add_name(&mut self.memory, &mut self.asked, name).is_err() {
             return Err(self.calls.fault());
         }
         if is_numbered {
@@ -127,6 +131,7 @@ impl Source for MemSource {
 
         // It fails at its numbers alone, and else takes as many bytes as fit.
         ensures numbered { IsErr result ↔ IsNumbered self.old.fails self.old.calls }
+        ensures no_shortage { self.new.shortages ≡ self.old.shortages }
         ensures as_many_as_fit { IfOk result (λ n. n ≡ min (length buf.old) (length self.old.left)) }
 
         ensures counted { Counts self.old self.new }

@@ -1,10 +1,14 @@
 //! Standard output, standard error and real files as outlets.
-ghost use Rattle.std.specs.Prelude.{◌≡◌, ◌+◌, ◌<◌, ◌≤◌, None, IfOk, length, vec_len, vec_capacity};
+ghost use Rattle.std.specs.Prelude.{◌≡◌, ◌≢◌, ◌+◌, ◌^◌, ◌<◌, ◌≤◌, [], None, IfOk, IfErr, OnOk, OnErr, IsErr, length, vec_len, vec_capacity};
+ghost use Rattle.std.specs.IoError.{error_kind};
+ghost use Rattle.smol_edge.specs.Faults.{Rose, Tells};
+ghost use Rattle.smol_edge.specs.Outlets.{Names, Appends};
+ghost use Rattle.smol_edge.specs.RealOutlets.{most_files, next_outlet_of};
 
-use crate::faults::count_fault;
+use crate::answers::{accepted, or_fault};
 use crate::{Failed, Outlets};
 use std::alloc::{AllocError, Global};
-use std::io::Write;
+use std::io::{ErrorKind, Write};
 use std::marker::Model;
 use std::rt::Files;
 use std::{fs, io};
@@ -56,8 +60,19 @@ impl<'a, R: Files> RealOutlets<'a, R> {
     }
 }
 
-// Hands bytes to the system.
-fn write_some<R: Files + Print + Eprint>(
+// The outlet of the next file, where there may be one more.
+fn next_outlet(opened: usize) -> Option<u32>
+    ensures { result ≡ next_outlet_of opened }
+{
+    if opened < MOST_FILES {
+        Some(2 + opened as u32)
+    } else {
+        None
+    }
+}
+
+// Hands bytes to the system once.
+fn write_once<R: Files + Print + Eprint>(
     rt: &R,
     files: &mut Vec<R::File>,
     outlet: usize,
@@ -75,16 +90,40 @@ fn write_some<R: Files + Print + Eprint>(
     }
 }
 
-// Writes text to standard error, all of it or nothing.
+// Hands bytes to the system, again where a signal interrupts that.
+fn write_some<R: Files + Print + Eprint>(
+    rt: &R,
+    files: &mut Vec<R::File>,
+    outlet: usize,
+    bytes: &[u8],
+) -> io::Result<usize>
+    requires { outlet < 2 + vec_len files.old }
+    ensures within { IfOk result (λ n. n ≤ length bytes.now) }
+    ensures made_again { IfErr result (λ error. error_kind error ≢ ErrorKind.Interrupted) }
+    ensures len { vec_len files.new ≡ vec_len files.old }
+    ensures room { vec_capacity files.new ≡ vec_capacity files.old }
+{
+    for _ in 0..u64::MAX {
+        match write_once(rt, files, outlet, bytes) {
+            Err(error) if error.kind() == ErrorKind::Interrupted => {}
+            answer => return answer,
+        }
+    }
+    Err(io::Error::from(ErrorKind::TimedOut))
+}
+
+// Writes text to standard error, all of it. The runtime makes it again where a signal interrupts it; what fails then
+// has written a part, so it isn't made again here.
 fn write_text(rt: &impl Eprint, bytes: &[u8]) -> io::Result<usize>
     ensures within { IfOk result (λ n. n ≤ length bytes.now) }
+    ensures not_again { IfErr result (λ error. error_kind error ≢ ErrorKind.Interrupted) }
 {
-    match std::str::from_utf8(bytes) {
-        Ok(text) => {
-            rt.eprint(text)?;
-            Ok(bytes.len())
-        }
-        Err(_) => Err(io::Error::from(io::ErrorKind::InvalidData)),
+    let Ok(text) = std::str::from_utf8(bytes) else {
+        return Err(io::Error::from(ErrorKind::InvalidData));
+    };
+    match rt.eprint(text) {
+        Ok(()) => Ok(bytes.len()),
+        Err(_) => Err(io::Error::from(ErrorKind::Other)),
     }
 }
 
@@ -95,25 +134,29 @@ impl<R: Files + Print + Eprint> Outlets for RealOutlets<'_, R> {
 
     ghost faults = { λ outlets. outlets.faults };
 
-    fn open(&mut self, name: &str) -> Result<u32, Failed> {
-        let count = self.files.len();
-        if count >= MOST_FILES {
-            return Err(count_fault(&mut self.faults));
-        }
-        match fs::create(self.rt, name) {
-            Ok(file) => {
-                self.files.push(file).unwrap();
-                Ok(2 + count as u32)
-            }
-            Err(_) => Err(count_fault(&mut self.faults)),
-        }
+    fn open(&mut self, name: &str) -> Result<u32, Failed>
+        requires { self.old.opened < 2 ^ 31 }
+        ensures outlet { IfOk result (λ outlet. outlet ≡ 2 + self.old.opened) }
+        ensures named { OnOk result (Tells None None (Names name.now)) }
+        ensures counted { OnOk result (self.new.opened ≡ self.old.opened + 1) }
+        ensures not_named { OnErr result (Tells None None (Appends [])) }
+        ensures not_counted { OnErr result (self.new.opened ≡ self.old.opened) }
+        ensures faults_stay { self.old.faults ≤ self.new.faults }
+        ensures cause { OnErr result (Rose self.old.faults self.new.faults) }
+        ensures no_fault { OnOk result (self.new.faults ≡ self.old.faults) }
+
+        // There is no further file.
+        ensures full { most_files ≤ self.old.opened → IsErr result }
+    {
+        let outlet = or_fault(next_outlet(self.files.len()), &mut self.faults)?;
+        let file = or_fault(fs::create(self.rt, name).ok(), &mut self.faults)?;
+        self.files.push(file).unwrap();
+        Ok(outlet)
     }
 
     fn write(&mut self, outlet: u32, bytes: &[u8]) -> Result<usize, Failed> {
-        match write_some(self.rt, &mut self.files, outlet as usize, bytes) {
-            Ok(count) if count > 0 || bytes.is_empty() => Ok(count),
-            _ => Err(count_fault(&mut self.faults)),
-        }
+        let answer = write_some(self.rt, &mut self.files, outlet as usize, bytes);
+        or_fault(accepted(answer, bytes.len()), &mut self.faults)
     }
 
     ghost is_counted = { λ _. tt };

@@ -1,6 +1,7 @@
 mod OnPages
 mod Joining
 mod Lone
+mod ToldFaults
 mod Phases
 mod StepsMade
 mod Whole

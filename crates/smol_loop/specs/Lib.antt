@@ -1,3 +1,4 @@
 pub mod Simulation
 pub mod Parts
 pub mod Due
+pub mod Faults

@@ -10,9 +10,10 @@ ghost use Rattle.smol_commands.specs.Phase.{IsPhase};
 ghost use Rattle.smol_loop.specs.Due.{due_at};
 ghost use Rattle.smol_loop.specs.Parts.{CountsFault, EndsPart, GivesPart};
 
+use crate::faults::fault_of_command;
 use crate::run_fault::RunFault;
 use crate::writing::write_pages;
-use smol_commands::{CommandFault, Flow, due, perform};
+use smol_commands::{Flow, due, perform};
 use smol_edge::Outlets;
 use smol_print::Pages;
 use smol_streams::Streams;
@@ -61,13 +62,13 @@ fn perform_command<K: Outlets>(
     ensures seed { streams.new ≡ streams.old }
 {
     let count = outlet_count(config);
+    let k = state.step;
     match perform(alloc, config, c, state, streams, pages) {
         Ok(flow) => match write_pages(count, pages, outlets) {
             Ok(()) => Ok(flow),
             Err(_) => Err(RunFault::OutputFault),
         },
-        Err(CommandFault::TooManyMolecules) => Err(RunFault::TooManyMolecules { step: state.step }),
-        Err(CommandFault::OutOfMemory) => Err(RunFault::OutOfMemory),
+        Err(fault) => Err(fault_of_command(fault, k)),
     }
 }
 

@@ -2,6 +2,7 @@
 #![tactic(auto)]
 
 mod commands;
+mod faults;
 mod run_fault;
 mod simulation;
 mod stepping;

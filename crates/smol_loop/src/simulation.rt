@@ -9,10 +9,11 @@ ghost use Rattle.smol_loop.specs.Parts.{CountsFault, EndsPart, GivesPart};
 ghost use Rattle.smol_loop.specs.Simulation.{EndsAs, Prints};
 
 use crate::commands::{blank_pages, perform_due};
+use crate::faults::fault_of_placing;
 use crate::run_fault::RunFault;
 use crate::stepping::make_steps;
 use smol_commands::Flow;
-use smol_compart::{PlaceFault, place_all};
+use smol_compart::place_all;
 use smol_edge::{Gate, Outlets};
 use smol_print::Pages;
 use smol_step::Panels;
@@ -124,8 +125,7 @@ pub fn simulate<R: Threads + Sync, K: Outlets, G: Gate + Sync>(
     let mut streams = Streams::of_seed(seed);
     let mut state = match place_all(alloc, config, &mut streams) {
         Ok(state) => state,
-        Err(PlaceFault::NoPlace { line, serial }) => return Err(RunFault::NoPlace { line, serial }),
-        Err(PlaceFault::OutOfMemory) => return Err(RunFault::OutOfMemory),
+        Err(fault) => return Err(fault_of_placing(fault)),
     };
     let Ok(mut pages) = blank_pages(alloc, config) else {
         return Err(RunFault::OutOfMemory);

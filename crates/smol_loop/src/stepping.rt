@@ -11,11 +11,12 @@ ghost use Rattle.smol_meaning.specs.Stretch.{followed_by};
 ghost use Rattle.smol_loop.specs.Parts.{CountsFault, EndsPart, GivesPart};
 
 use crate::commands::perform_due;
+use crate::faults::fault_of_step;
 use crate::run_fault::RunFault;
 use smol_commands::Flow;
 use smol_edge::{Gate, Outlets};
 use smol_print::Pages;
-use smol_step::{Panels, StepFault, advance};
+use smol_step::{Panels, advance};
 use smol_streams::Streams;
 use smol_types::{Config, Items, Phase, State, last_step};
 use std::alloc::Global;
@@ -55,6 +56,7 @@ fn make_step<R: Threads + Sync, G: Gate + Sync>(
     ensures no_output { IsErrOf result RunFault.OutputFault → ⊥ }
 {
     let step = state.step;
+    let k = step + 1;
     let nobody = State {
         step,
         mols: Items::new(alloc),
@@ -74,10 +76,7 @@ fn make_step<R: Threads + Sync, G: Gate + Sync>(
             *state = next;
             Ok(Flow::Go)
         }
-        Err(StepFault::TooManyMolecules { .. }) => Err(RunFault::TooManyMolecules {
-            step: step + 1,
-        }),
-        Err(StepFault::OutOfMemory) => Err(RunFault::OutOfMemory),
+        Err(fault) => Err(fault_of_step(fault, k)),
     }
 }
 

@@ -10,7 +10,7 @@ use Rattle.smol_geom.specs.declared.moment.Moment.{Moment}
 use Rattle.smol_geom.specs.declared.fold.Fold.{Fold}
 use Rattle.smol_geom.specs.declared.cuboid.Cuboid.{Cuboid}
 use Rattle.smol_geom.specs.Axes.{on_axis, IsOdd, IsEven}
-use Rattle.smol_geom.specs.Fraction.{Fraction, whole, ◌≤ℚ◌}
+use Rattle.smol_geom.specs.Fraction.{Fraction, IsNumber, whole, ◌≤ℚ◌}
 use Rattle.smol_geom.specs.Fold.{IsSign, true_point}
 use Rattle.smol_geom.specs.Moment.{part_of}
 use Rattle.smol_geom.specs.Moments.{IsMoment, ticks, moment_of, moments}
@@ -64,7 +64,11 @@ module _ (box : Cuboid) (from : Place) (by : Step3) (odd : (j : ℕ) → j < 3 �
       let b = bounds j l in
       let low = above_low (on_axis box.low j) (start_on f from j) (way_on f by j) (part_of m) b.0 in
       let high = below_high (on_axis box.high j) (start_on f from j) (way_on f by j) (part_of m) b.1 in
-      (subst (λ x. whole (on_axis box.low j) ≤ℚ x) (point_is from by f m j) low, subst (λ x. x ≤ℚ whole (on_axis box.high j)) (point_is from by f m j) high)
+      record {
+        number = let is = m_is from by odd c m ms left in omega (arith, is.begun, is.unfinished);
+        above = subst (λ x. whole (on_axis box.low j) ≤ℚ x) (point_is from by f m j) low;
+        below = subst (λ x. x ≤ℚ whole (on_axis box.high j)) (point_is from by f m j) high;
+      }
 
   i_in : m.axis < 3
   i_in = (m_is from by odd c m ms left).axis
@@ -226,17 +230,19 @@ module _ (box : Cuboid) (from : Place) (by : Step3) (odd : (j : ℕ) → j < 3 �
             no h = omega (arith, h)
 
 -- a part of the move at which each axis is within one tick of what it has made: the true point is in the region
-module _ (box : Cuboid) (from : Place) (by : Step3) (f : Fold) (c : ℕ → ℕ) (inside : Inside box from by f c) (t : Fraction) (num : ℕ) (is : t.num ≡ pos num) where
+module _ (box : Cuboid) (from : Place) (by : Step3) (f : Fold) (c : ℕ → ℕ) (inside : Inside box from by f c) (t : Fraction) (number : IsNumber t) (num : ℕ) (is : t.num ≡ pos num) where
   in_region_at : ((j : ℕ) → j < 3 → 2 * c j * t.den ≤ num * ticks by j + t.den) → ((j : ℕ) → j < 3 → num * ticks by j ≤ 2 * c j * t.den + t.den)
       → IsInRegion box (true_point f from by t)
   in_region_at behind ahead_ j l =
       let size = signed_size (on_axis f.sign j) (on_axis by.0 j) (inside.signs j l) in
       let grown : num * unsigned_abs (way_on f by j) ≡ num * ticks by j = ap (λ n. num * n) size in
       let point = folded_point (on_axis f.sign j) (on_axis from.0 j) (on_axis by.0 j) (on_axis f.shift j) (start_on f from j) (way_on f by j) t refl refl in
-      let b = in_cell (on_axis box.low j) (on_axis box.high j) (start_on f from j) (way_on f by j) (c j) t num is (inside.cells j l) (omega (arith, grown, behind j l)) (omega (arith, grown, ahead_ j l)) in (
-        subst (λ x. whole (on_axis box.low j) ≤ℚ x) point (above_low (on_axis box.low j) (start_on f from j) (way_on f by j) t b.0),
-        subst (λ x. x ≤ℚ whole (on_axis box.high j)) point (below_high (on_axis box.high j) (start_on f from j) (way_on f by j) t b.1),
-      )
+      let b = in_cell (on_axis box.low j) (on_axis box.high j) (start_on f from j) (way_on f by j) (c j) t num is (inside.cells j l) (omega (arith, grown, behind j l)) (omega (arith, grown, ahead_ j l)) in
+      record {
+        number = omega (arith, number);
+        above = subst (λ x. whole (on_axis box.low j) ≤ℚ x) point (above_low (on_axis box.low j) (start_on f from j) (way_on f by j) t b.0);
+        below = subst (λ x. x ≤ℚ whole (on_axis box.high j)) point (below_high (on_axis box.high j) (start_on f from j) (way_on f by j) t b.1);
+      }
 
 -- what is made at one part is made at each later one, and what isn't exceeded at one part isn't at an earlier one
 behind_later : (made ln ld tn td d : ℕ) → 0 < ld → made * ld ≤ ln * d + ld → ln * td ≤ tn * ld → made * td ≤ tn * d + td
@@ -338,7 +344,7 @@ module _ (dims : ℕ) (plates : List Plate) (box : Cuboid) (from : Place) (by : 
       let is = num_of ln ld (whole (pos 1)) t some lies in
       let above = above_num ln ld t.num (unsigned_abs t.num) t.den is lies.above in
       let below = below_num 1 1 t.num (unsigned_abs t.num) t.den is lies.below in
-      in_region_at box from by f c inside t (unsigned_abs t.num) is
+      in_region_at box from by f c inside t lies.number (unsigned_abs t.num) is
       (λ j l. behind_later (2 * c j) ln ld (unsigned_abs t.num) t.den (ticks by j) some (passed j l) above)
       (λ j l. ahead_end (2 * c j) (unsigned_abs t.num) t.den (ticks by j) (omega (arith, all_made c left j l)) (omega (arith, below)))
   in_region (Goes f) c ln ld (m ∷ ms) some left passed inside = (
@@ -346,7 +352,7 @@ module _ (dims : ℕ) (plates : List Plate) (box : Cuboid) (from : Place) (by : 
         let is = num_of ln ld (part_of m) t some lies in
         let above = above_num ln ld t.num (unsigned_abs t.num) t.den is lies.above in
         let below = below_num m.num m.den t.num (unsigned_abs t.num) t.den is lies.below in
-        in_region_at box from by f c inside t (unsigned_abs t.num) is
+        in_region_at box from by f c inside t lies.number (unsigned_abs t.num) is
         (λ j l. behind_later (2 * c j) ln ld (unsigned_abs t.num) t.den (ticks by j) some (passed j l) above)
         (λ j l. ahead_earlier (2 * c j) m.num m.den (unsigned_abs t.num) t.den (ticks by j) (den_above m (m_is from by odd c m ms left)) (not_ahead from by odd c m ms left j l) below),
     in_region (after_moment plates from by (Goes f) m) (more c m.axis) m.num m.den ms (den_above m (m_is from by odd c m ms left)) (rest_left from by odd c m ms left)

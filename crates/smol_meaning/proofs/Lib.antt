@@ -20,3 +20,7 @@ pub mod Performing
 pub mod Going
 pub mod Courses
 pub mod DueTimes
+pub mod Drawing
+pub mod Candidates
+pub mod MayMeeting
+pub mod Orders

@@ -23,10 +23,16 @@ abbrev pub IsInside : Cuboid → Place → Type 0
 IsInside box place =
     (axis : ℕ) → axis < 3 → (on_axis box.low axis <ℤ on_axis place.0 axis) × (on_axis place.0 axis <ℤ on_axis box.high axis)
 
--- the point is in the closed region of the box, its faces included
+-- a number from the low to the high one, both included
+pub record LiesFrom (low high t : Fraction) : Type 0 where
+  pub number : IsNumber t
+  pub above : low ≤ℚ t
+  pub below : t ≤ℚ high
+
+-- the point is in the closed region of the box, its faces included: each of its coordinates is a number from face to face
 abbrev pub IsInRegion : Cuboid → (ℕ → Fraction) → Type 0
 IsInRegion box point =
-    (axis : ℕ) → axis < 3 → (whole (on_axis box.low axis) ≤ℚ point axis) × (point axis ≤ℚ whole (on_axis box.high axis))
+    (axis : ℕ) → axis < 3 → LiesFrom (whole (on_axis box.low axis)) (whole (on_axis box.high axis)) (point axis)
 
 -- on the other axes a sheet reaches at least as far as the box: a plane has no edges
 abbrev pub Covers : Sheet → Cuboid → Type 0
@@ -59,12 +65,6 @@ pub record IsClosed (dims : ℕ) (plates : List Plate) (box : Cuboid) : Type 0 w
   pub upper : (axis : ℕ) → axis < dims → IsFaceShut plates box axis (on_axis box.high axis) true
   pub quiet : (plate : Plate) → Contains plates plate → (point : ℕ → Fraction) → IsInRegion box point → IsOn plate.sheet point
       → StaysPut plate.from_below × StaysPut plate.from_above
-
--- a part of a move from one part of it to another, both included
-pub record LiesFrom (low high t : Fraction) : Type 0 where
-  pub number : IsNumber t
-  pub above : low ≤ℚ t
-  pub below : t ≤ℚ high
 
 -- after this part of the move each true point of the way is in the closed region of the box, at every part of the move: up to the
 -- next moment it is the point of the fold so far, and from there on that of the fold after the moment

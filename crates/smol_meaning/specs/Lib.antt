@@ -24,3 +24,4 @@ pub mod Placed
 pub mod Folds
 pub mod Meeting
 pub mod FirstStep
+pub mod Who

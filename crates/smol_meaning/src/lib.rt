@@ -6,6 +6,7 @@ mod event;
 mod law;
 mod sight;
 mod way;
+mod who;
 
 pub use due::{a_time_is_due_at_its_first_step, times_are_due_at_their_first_steps};
 pub use event::{Birth, Fired};
@@ -15,3 +16,4 @@ pub use law::{
 };
 pub use sight::{a_line_meets_a_panel, a_line_meets_a_wall, meets_panel, meets_wall};
 pub use way::{Response, Standing, Travelled};
+pub use who::{a_molecule_makes_the_reaction_that_it_draws, candidates_are_those_that_may_meet};

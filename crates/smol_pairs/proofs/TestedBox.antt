@@ -49,7 +49,6 @@ axis_is axis = record {
   lower_size = omega arith;
   upper_size = omega arith;
   ordered = omega (arith, ints);
-  one_letter = refl;
 }
 
 walls_are : AreWalls 0 walls

@@ -17,6 +17,9 @@ use std::thread::Threads;
 /// How many pairs a slice has, but for the last.
 const SLICE: usize = 64;
 
+/// Up to how many entries one thread sorts: before it has asked for others and started them it has sorted as many itself.
+const SHORT: usize = 4096;
+
 /// A list of pairs, in the order in which they come, with the pairs that come before and after each on its molecules.
 #[derive(Drop)]
 pub struct Plan {
@@ -247,6 +250,26 @@ fn entries_of(alloc: Global, pairs: &[Pair]) -> Result<Vec<Entry>, AllocError>
 
 // Sorts entries by molecule, and those of one molecule by pair.
 fn sort_entries<R: Threads + Sync>(rt: &R, entries: &mut [Entry])
+    ensures permutation { IsPermutation entries.old entries.new }
+    ensures rising { IsRising entries.new }
+{
+    if entries.len() <= SHORT {
+        sort_alone(entries);
+    } else {
+        sort_together(rt, entries);
+    }
+}
+
+// The same by the calling thread, which asks the system nothing.
+fn sort_alone(entries: &mut [Entry])
+    ensures permutation { IsPermutation entries.old entries.new }
+    ensures rising { IsRising entries.new }
+{
+    entries.sort_unstable();
+}
+
+// The same by many threads.
+fn sort_together<R: Threads + Sync>(rt: &R, entries: &mut [Entry])
     ensures permutation { IsPermutation entries.old entries.new }
     ensures rising { IsRising entries.new }
 {

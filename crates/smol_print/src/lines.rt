@@ -90,16 +90,7 @@ fn add_name(config: &Config, species: u16, page: &mut Vec<u8>) -> Result<(), All
     page.extend_from_slice(b"(solution)")
 }
 
-/// Adds the coordinates of a place on the axes in use, each behind a space.
-pub fn place_behind_space(config: &Config, p: &Place, page: &mut Vec<u8>) -> Result<(), AllocError>
-    ensures ok { OnOk result (page.new.items ≡ page.old.items ++ place_text config.now p.now) }
-    ensures err { OnErr result (page.new.items ≡ page.old.items) }
-{
-    let length = page.len();
-    let added = add_place(config, p, page);
-    whole_or_nothing(page, length, added)
-}
-
+// Adds the coordinates of a place on the axes in use, each behind a space.
 fn add_place(config: &Config, p: &Place, page: &mut Vec<u8>) -> Result<(), AllocError>
     ensures ok { OnOk result (page.new.items ≡ page.old.items ++ place_text config.now p.now) }
     ensures err { OnErr result (BeginsWith page.old.items page.new.items) }

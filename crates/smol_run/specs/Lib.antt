@@ -4,4 +4,5 @@ pub mod Outcome
 pub mod Asked
 pub mod Opening
 pub mod Ends
+pub mod Told
 pub mod Ways

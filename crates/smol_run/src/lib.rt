@@ -1,6 +1,7 @@
 //! The whole program but for its real outside: from the words of the command line to the bytes on the outlets.
 #![tactic(auto)]
 
+mod ended;
 mod error_lines;
 mod loss;
 mod outputs;

@@ -5,12 +5,13 @@ ghost use Rattle.smol_meaning.specs.Run.{run_of};
 ghost use Rattle.smol_run.specs.Ends.{CountsLoss, GoesWith, IsRun};
 ghost use Rattle.smol_run.specs.Outcome.{outcome_of_run};
 
-use crate::error_lines::{no_place_text, over_text, tell};
+use crate::ended::{ended_by, status_of_end, text_of_end};
+use crate::error_lines::tell;
 use crate::loss::Loss;
 use crate::outputs::open_all;
 use crate::status::Status;
 use smol_edge::{Gate, Outlets};
-use smol_loop::{RunFault, simulate};
+use smol_loop::simulate;
 use smol_types::Config;
 use std::alloc::Global;
 use std::thread::Threads;
@@ -37,15 +38,10 @@ pub fn run_config<R: Threads + Sync, K: Outlets, G: Gate + Sync>(
     open_all(outlets, config.outputs())?;
     match simulate(rt, alloc, config, seed, workers, outlets, gate) {
         Ok(()) => Ok(Status::Done),
-        Err(RunFault::NoPlace { line, serial }) => {
-            tell(outlets, &no_place_text(alloc, line, serial)?)?;
-            Ok(Status::Refused)
+        Err(fault) => {
+            let end = ended_by(fault)?;
+            tell(outlets, &text_of_end(alloc, end)?)?;
+            Ok(status_of_end(end))
         }
-        Err(RunFault::TooManyMolecules { step }) => {
-            tell(outlets, &over_text(alloc, step)?)?;
-            Ok(Status::Over)
-        }
-        Err(RunFault::OutputFault) => Err(Loss::Output),
-        Err(RunFault::OutOfMemory) => Err(Loss::Memory),
     }
 }

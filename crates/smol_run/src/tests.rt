@@ -584,3 +584,55 @@ fn a_failing_write_leaves_a_front(rt: HostRuntime) -> Result<(), Fail> {
     }
     Ok(())
 }
+
+// Runs the three molecules over a source that fails at one call alone, and tells whether they met it. Where they did, nothing is
+// written, and else all is there.
+fn meets_failing_read<R: Abort + AllocGlobal + Sync + Threads>(
+    rt: &R,
+    text: &str,
+    call: u32,
+) -> Result<bool, AllocError> {
+    let words = owned(rt.alloc(), &["f"])?;
+    let mut source = MemSource::of(rt.alloc(), "f", text.as_bytes(), &[call])?;
+    let mut outlets = MemOutlets::of(rt.alloc(), &[], 4096)?;
+    let status = run_program(rt, rt.alloc(), &words, &mut source, &mut outlets, &Open);
+    assert_eq!(rt; outlets.bytes(1).len(), 0);
+    if status == Status::Input {
+        assert_eq!(rt; outlets.bytes(0).len(), 0);
+        return Ok(true);
+    }
+    assert_eq!(rt; status, Status::Done);
+    assert_eq!(rt; outlets.bytes(0), b"0 3\n1 3\n".as_slice());
+    Ok(false)
+}
+
+// The file is opened, read, and read once more to find its end: each of these calls fails in turn, and no other is made.
+#[test]
+fn a_failing_read_leaves_nothing(rt: HostRuntime) -> Result<(), Fail> {
+    let text = text_of(rt.alloc(), &LINES)?;
+    for call in 1..100 {
+        if !meets_failing_read(&rt, &text, call)? {
+            assert_eq!(rt; call, 4);
+            return Ok(());
+        }
+    }
+    panic!(rt; "some call fails in every run")
+}
+
+// Three commands print a line each, and the write of the third line fails.
+#[test]
+fn lines_before_a_failing_write_stay(rt: HostRuntime) -> Result<(), Fail> {
+    let mut text = text_of(rt.alloc(), &LINES[..9])?;
+    text.push_str("cmd b molcount stdout\ncmd e molcount stdout\ncmd a molcount stdout\n")?;
+    let row = Row {
+        words: &["f"],
+        bytes: text.as_bytes(),
+        failing_reads: &[],
+        failing_writes: &[3],
+        status: Status::Output,
+        stdout: "0 3\n0 3\n",
+        stderr: "",
+    };
+    meets(&rt, &row)?;
+    Ok(())
+}

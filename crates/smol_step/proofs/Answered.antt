@@ -1,5 +1,5 @@
 -- What follows from what a step answers.
-use Rattle.std.proofs.Common.{◌+◌, ◌-◌, ◌≤◌, ℕ, Result, Ok, Err}
+use Rattle.std.proofs.Common.{◌≡◌, ◌+◌, ◌-◌, ◌≤◌, ℕ, Result, Ok, Err, refl, subst, sym, ap, ◌∙◌}
 use Rattle.std.specs.Prelude.{IfOk}
 use Rattle.smol_geom.specs.declared.cuboid.Cuboid.{Cuboid}
 use Rattle.smol_types.specs.declared.draft.Draft.{Draft}
@@ -9,14 +9,27 @@ use Rattle.smol_types.specs.Sound.{IsSound}
 use Rattle.smol_types.specs.State.{Fits}
 use Rattle.smol_types.specs.Steps.{last_step}
 use Rattle.smol_meaning.specs.Seen.{IsClosedBox}
-use Rattle.smol_meaning.specs.Step.{next_state}
+use Rattle.smol_meaning.specs.Step.{next_state, within_limit}
 use Rattle.smol_meaning.proofs.Stepping.{next_fits, next_rises}
 use Rattle.smol_confined.specs.Boxes.{IsIn, IsInOrGone}
 use Rattle.smol_confined.specs.Laws.{IsBoxedStep}
 use Rattle.smol_confined.proofs.Safe.{step_is_confined}
 use Rattle.smol_step.specs.declared.step_fault.StepFault.{StepFault}
 use Rattle.smol_step.specs.declared.step_fault.StepFault.TheVariants.{TooManyMolecules, OutOfMemory}
-use Rattle.smol_step.specs.Advance.{IsAnswer}
+use Rattle.smol_step.specs.Advance.{IsAnswer, limit_told, step_told}
+
+-- a state within the limit, or a count, is told as an answer
+limit_is_answer : (expected : Result State ℕ) → IsAnswer expected (limit_told expected)
+limit_is_answer (Ok state) = refl
+limit_is_answer (Err found) = refl
+
+-- and so is the end of a step, where a state that was made is this one
+pub told_is_answer : {E : Type 0} (limit most : ℕ) (after : State) (made : Result State E) → most ≡ limit
+    → IfOk made (λ (state : State). state ≡ after) → IsAnswer (within_limit limit after) (step_told most made)
+told_is_answer limit most after (Ok state) is made =
+    subst (λ (expected : Result State ℕ). IsAnswer expected (limit_told (within_limit most state))) (λ i. within_limit (is i) (made i))
+    (limit_is_answer (within_limit most state))
+told_is_answer limit most after (Err shortage) is made = tt
 
 module _ (draft : Draft) (seed : ℕ) (state : State) (sound : IsSound draft) (fits : Fits draft state) (more : state.step + 1 ≤ last_step draft.start draft.stop draft.step) where
   pub answer_fits : state.next ≤ last_serial - 16000000 → (answer : Result State StepFault) → IsAnswer (next_state draft seed state) answer → IfOk answer (Fits draft)

@@ -7,13 +7,14 @@ ghost use Rattle.smol_types.specs.State.{Ascend, Fits};
 ghost use Rattle.smol_types.specs.Steps.{last_step};
 ghost use Rattle.smol_pairs.specs.Moved.{AreMoved};
 ghost use Rattle.smol_meaning.specs.Events.{lone_reaction};
+ghost use Rattle.smol_meaning.specs.Motion.{all_diffused};
 ghost use Rattle.smol_meaning.specs.Placed.{IsPlaced};
 ghost use Rattle.smol_meaning.specs.Seen.{IsClosedBox};
 ghost use Rattle.smol_meaning.specs.Step.{events_of, moves_of, next_state, reacted, reactions_of_two, remains, within_limit};
 ghost use Rattle.smol_meaning.specs.Ways.{CrossesNoFace, StaysInBoxes};
 ghost use Rattle.smol_confined.specs.Boxes.{IsIn, IsInOrGone};
 ghost use Rattle.smol_confined.specs.Laws.{LoneProductsAreConfined, PairsAreConfined};
-ghost use Rattle.smol_step.specs.Advance.{IsAnswer};
+ghost use Rattle.smol_step.specs.Advance.{IsAnswer, step_told};
 
 use crate::alone::react_alone;
 use crate::motion::diffuse;
@@ -100,15 +101,58 @@ fn reacted<R: Threads + Sync, G: Gate + Sync>(
     })
 }
 
-// The state, where it has no more than so many molecules.
-fn within_limit(most: u32, state: State) -> Result<State, StepFault>
-    ensures { IsAnswer (within_limit most state) result }
+// The state after the step behind a state, whatever the limit.
+fn stepped<R: Threads + Sync, G: Gate + Sync>(
+    rt: &R,
+    alloc: Global,
+    config: &Config,
+    panels: &Panels,
+    state: State,
+    seed: u64,
+    workers: u32,
+    gate: &G,
+) -> Result<State, AllocError>
+    requires sound { IsSound config.now }
+    requires panels { panels.now ≡ config.now }
+    requires fits { Fits config.now state }
+    requires further { state.step + 1 ≤ last_step config.now.start config.now.stop config.now.step }
+    requires room { state.next ≤ last_serial - 16000000 }
+    ensures { IfOk result (λ after. after
+        ≡ reacted config.now seed (state.step + 1) (all_diffused config.now seed (state.step + 1) state.mols) state.next) }
+{
+    let State { step, mols, next } = state;
+    let k = step + 1;
+    let workers = workers.clamp(1, 16);
+    let mut mols = mols.into_vec();
+    let mut streams = Streams::of_seed(seed);
+    let reactions = diffuse(alloc, config, panels, &mut streams, k, &mut mols)?;
+    reacted(
+        rt, alloc, config, panels, seed, k, mols, &reactions, next, workers, gate,
+    )
+}
+
+// The state, where it has no more than so many molecules, and otherwise how many it has. Takes no memory.
+fn within_limit(most: u32, state: State) -> Result<State, u64>
+    ensures { result ≡ within_limit most state }
 {
     let found = state.mols.len() as u64;
     if found > u64::from(most) {
-        return Err(StepFault::TooManyMolecules { found });
+        return Err(found);
     }
     Ok(state)
+}
+
+// How the end of a step is told under the limit of molecules. Takes no memory.
+fn step_told(most: u32, made: Result<State, AllocError>) -> Result<State, StepFault>
+    ensures { result ≡ step_told most made }
+{
+    match made {
+        Ok(state) => match within_limit(most, state) {
+            Ok(state) => Ok(state),
+            Err(found) => Err(StepFault::TooManyMolecules { found }),
+        },
+        Err(AllocError) => Err(StepFault::OutOfMemory),
+    }
 }
 
 /// Makes the step after this state. Its pairs are matched by so many workers, where fewer than 1 count as 1
@@ -138,18 +182,6 @@ pub fn advance<R: Threads + Sync, G: Gate + Sync>(
     ensures pairs_stay { (box : Cuboid) → IsClosedBox config.now box → PairsAreConfined config.now seed state box }
 {
     let most = config.max_mol();
-    let State { step, mols, next } = state;
-    let k = step + 1;
-    let workers = workers.clamp(1, 16);
-    let mut mols = mols.into_vec();
-    let mut streams = Streams::of_seed(seed);
-    let Ok(reactions) = diffuse(alloc, config, panels, &mut streams, k, &mut mols) else {
-        return Err(StepFault::OutOfMemory);
-    };
-    match reacted(
-        rt, alloc, config, panels, seed, k, mols, &reactions, next, workers, gate,
-    ) {
-        Ok(state) => within_limit(most, state),
-        Err(AllocError) => Err(StepFault::OutOfMemory),
-    }
+    let made = stepped(rt, alloc, config, panels, state, seed, workers, gate);
+    step_told(most, made)
 }

@@ -21,15 +21,14 @@ IsWhen («when».AtTime t) = unsigned_abs t ≤ latest
 IsWhen («when».Times on off dt) = (unsigned_abs on ≤ latest) × (unsigned_abs off ≤ latest) × (unsigned_abs dt ≤ latest) × (pos 0 <ℤ dt)
 IsWhen («when».Steps on off m) = (on ≤ most_steps) × (off ≤ most_steps) × (0 < m) × (m ≤ most_steps)
 
--- numbers of species that there are, ascending from at least this one
-abbrev pub AreSpecies : ℕ → ℕ → List ℕ → Type 0
-AreSpecies least species_count [] = Unit {0}
-AreSpecies least species_count (species ∷ who) = (least ≤ species) × (species < species_count) × AreSpecies (species + 1) species_count who
+-- numbers of species that there are
+abbrev pub AreSpecies : ℕ → List ℕ → Type 0
+AreSpecies species_count who = All (λ (species : ℕ). species < species_count) who
 
 abbrev pub IsTest : ℕ → Test → Type 0
-IsTest species_count (test.IfNo who) = AreSpecies 0 species_count who
-IsTest species_count (test.IfLess who n) = AreSpecies 0 species_count who × (n ≤ most_molecules)
-IsTest species_count (test.IfMore who n) = AreSpecies 0 species_count who × (n ≤ most_molecules)
+IsTest species_count (test.IfNo who) = AreSpecies species_count who
+IsTest species_count (test.IfLess who n) = AreSpecies species_count who × (n ≤ most_molecules)
+IsTest species_count (test.IfMore who n) = AreSpecies species_count who × (n ≤ most_molecules)
 
 -- standard output, standard error or one of the files
 abbrev pub IsOutlet : ℕ → ℕ → Type 0
@@ -42,12 +41,12 @@ IsAct species_count compartment_count output_count walls (act.CountIn compartmen
     (compartment < compartment_count) × IsOutlet output_count out
 IsAct species_count compartment_count output_count walls (act.List out) = IsOutlet output_count out
 IsAct species_count compartment_count output_count walls (act.Positions who out) =
-    AreSpecies 0 species_count who × IsOutlet output_count out
+    AreSpecies species_count who × IsOutlet output_count out
 IsAct species_count compartment_count output_count walls (act.Echo out text) = IsOutlet output_count out
-IsAct species_count compartment_count output_count walls (act.Kill who) = AreSpecies 0 species_count who
-IsAct species_count compartment_count output_count walls (act.KillProb who p) = AreSpecies 0 species_count who × (p.0 ≤ certain)
+IsAct species_count compartment_count output_count walls (act.Kill who) = AreSpecies species_count who
+IsAct species_count compartment_count output_count walls (act.KillProb who p) = AreSpecies species_count who × (p.0 ≤ certain)
 IsAct species_count compartment_count output_count walls (act.Replace who to p) =
-    AreSpecies 0 species_count who × (to < species_count) × (p.0 ≤ certain)
+    AreSpecies species_count who × (to < species_count) × (p.0 ≤ certain)
 IsAct species_count compartment_count output_count walls (act.PointSource species n place) =
     (species < species_count) × (n ≤ most_molecules) × (length place.0 ≡ 3) × AreBetween walls place.0
 IsAct species_count compartment_count output_count walls act.Stop = Unit {0}

@@ -13,6 +13,5 @@ pub record IsPoint (dims : ℕ) (point : Place) : Type 0 where
 pub record IsCompartment (dims surface_count : ℕ) (compartment : Compartment) : Type 0 where
   pub bound_count : length compartment.surfaces ≤ most_bounds
   pub bounds : All (λ (surface : ℕ). surface < surface_count) compartment.surfaces
-  pub some_point : 0 < length compartment.points
   pub point_count : length compartment.points ≤ most_points
   pub points : All (IsPoint dims) compartment.points

@@ -16,8 +16,6 @@ pub record IsAxis (number : ℕ) (lower upper : Wall) : Type 0 where
   pub lower_size : unsigned_abs lower.plane ≤ farthest
   pub upper_size : unsigned_abs upper.plane ≤ farthest
   pub ordered : lower.plane <ℤ upper.plane
-  -- both walls do the same
-  pub one_letter : lower.letter ≡ upper.letter
 
 -- a lower and an upper wall for each axis from this number on, and no others
 abbrev pub AreWalls : ℕ → List Wall → Type 0
