@@ -250,6 +250,6 @@ async function start() {
       if (shown === last) play(false);
       else show(shown + 1);
     }
-    if (scene.draw(now)) Object.assign(document.documentElement.dataset, { drawn: scene.renderer.info.render.frame, moment: shown });
+    if (scene.draw(now)) Object.assign(document.documentElement.dataset, { drawn: scene.renderer.info.render.frame, moment: shown, coarse: Boolean(scene.isCoarse) });
   });
 }

@@ -446,7 +446,7 @@ class Scene {
     if (this.isDirty) {
       this.pause = pause < 1000 ? 0.7 * (this.pause ?? 0) + 0.3 * pause : 0;
       this.drawnAt = now;
-      if (this.pause > 120 && !this.isCoarse) this.setCoarse(true);
+      if (this.pause > 200 && !this.isCoarse) this.setCoarse(true);
     } else if (this.isCoarse && pause > 400) {
       this.setCoarse(false);
     }
@@ -454,7 +454,7 @@ class Scene {
 
   setCoarse(isCoarse) {
     this.isCoarse = isCoarse;
-    this.renderer.setPixelRatio(isCoarse ? this.fine / 3 : this.fine);
+    this.renderer.setPixelRatio(isCoarse ? this.fine / 2 : this.fine);
     this.isDirty = true;
   }
 
