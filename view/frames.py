@@ -6,7 +6,6 @@ all others, so the file's own commands do what they do without them. The copy is
 what the file's commands print goes nowhere.
 """
 import base64
-import contextlib
 import itertools
 import os
 import subprocess
@@ -159,12 +158,11 @@ def listing(every, outlet):
 
 def run(program, contents, seed, frames, every=None):
     """Runs the copy of a configuration, with the lines that list its molecules where a number of steps is given."""
-    with tempfile.TemporaryDirectory(prefix="smol-") as room, tempfile.TemporaryFile() as told, contextlib.ExitStack() as pipe:
-        reader, writer = os.pipe()
-        lines = pipe.enter_context(open(reader, "rb"))
+    reader, writer = os.pipe()
+    with open(reader, "rb") as lines, tempfile.TemporaryDirectory(prefix="smol-") as room, tempfile.TemporaryFile() as told:
         with open(writer, "wb") as end:
             text = [*copied(contents), *(listing(every, f"/dev/fd/{end.fileno()}") if every else [])]
-            path = os.path.join(room, "%configuration")
+            path = os.path.join(room, "%configuration")  # a name that no output file has
             with open(path, "wb") as file:
                 file.write(b"".join(line + b"\n" for line in text))
             words = [program, path] + ([] if seed is None else ["--seed", str(seed)])

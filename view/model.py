@@ -3,14 +3,22 @@
 A configuration is read here that the program accepts, so nothing is tested again. Numbers are floats, in length units.
 """
 import math
-from fractions import Fraction
+import re
 from decimal import Decimal
+from fractions import Fraction
 
 from smol import statements
 
 AXES = {"x": 0, "y": 1, "z": 2, "0": 0, "1": 1, "2": 2}
 ACTIONS = {"reflect": "r", "absorb": "a", "transmit": "t", "jump": "j", "r": "r", "a": "a", "t": "t", "j": "j"}
 FACES = {"front": ["front"], "back": ["back"], "both": ["front", "back"]}
+
+
+def exact(word):
+    """The number of a decimal, as the program reads it."""
+    if not re.fullmatch(r"[+-]?(\d+\.?\d*|\.\d+)([eE][+-]?\d{1,3})?", word, re.ASCII) or len(word) > 4000:
+        raise ValueError(word)
+    return Fraction(Decimal(word))
 
 
 class Model:
@@ -51,13 +59,13 @@ class Model:
         self.species += words
 
     def read_time_start(self, _, words):
-        self.times["time_start"] = Fraction(Decimal(words[0]))
+        self.times["time_start"] = exact(words[0])
 
     def read_time_stop(self, _, words):
-        self.times["time_stop"] = Fraction(Decimal(words[0]))
+        self.times["time_stop"] = exact(words[0])
 
     def read_time_step(self, _, words):
-        self.times["time_step"] = Fraction(Decimal(words[0]))
+        self.times["time_step"] = exact(words[0])
 
     def read_random_seed(self, _, words):
         self.seed = int(words[0])

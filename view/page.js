@@ -1,7 +1,7 @@
 // The page: what was run, the drawing, the counts, and what the reader chooses of them.
 const byId = (name) => document.getElementById(name);
 const make = (tag, className = "", text = "") => Object.assign(document.createElement(tag), { className, textContent: text });
-const counted = (count, noun) => `${count.toLocaleString("en")} ${noun}${count === 1 ? "" : "s"}`;
+const counted = (count, one, many = `${one}s`) => `${count.toLocaleString("en")} ${count === 1 ? one : many}`;
 const data = JSON.parse(byId("data").textContent);
 const { model, places } = data;
 
@@ -238,7 +238,7 @@ async function start() {
 
   byId("about").textContent = last < 0 ? "" : `${counted(data.steps[last], "step")} shown at ${counted(last + 1, "moment")}, seed ${data.seed}`;
   byId("caption").textContent = scene.model.dims === 1 ? "Heights have no meaning: they tell molecules and species apart." : "";
-  drawing.setAttribute("aria-label", `${counted(model.panels.length, "panel")} and ${counted(model.species.length, "species").replace(/speciess$/, "species")} in ${counted(model.dims, "axis").replace("axiss", "axes")}`);
+  drawing.setAttribute("aria-label", `${counted(model.panels.length, "panel")} in ${counted(model.dims, "axis", "axes")}`);
   play(false);
   byId("player").hidden = last < 0;
   if (last >= 0) show(0);

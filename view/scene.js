@@ -46,7 +46,7 @@ class Scene {
     this.sight = { arrows: true, labels: true, points: true };
     this.measure();
 
-    this.renderer = new THREE.WebGLRenderer({ antialias: !bySoftware, preserveDrawingBuffer: false });
+    this.renderer = new THREE.WebGLRenderer({ antialias: !bySoftware });
     this.fine = bySoftware ? 1 : Math.min(window.devicePixelRatio, 2);
     this.renderer.setPixelRatio(this.fine);
     this.renderer.setClearColor("#ffffff");
@@ -342,7 +342,6 @@ class Scene {
       attribute.array.set(whole.subarray(starts[moment][species] * axes, (starts[moment][species] + count) * axes));
       attribute.needsUpdate = true;
       cloud.geometry.setDrawRange(0, count);
-      cloud.visible = count > 0 && !this.hidden.species.has(species);
     });
     this.moment = moment;
     this.isDirty = true;
