@@ -1,5 +1,5 @@
 -- A fault of a run and the line that tells it come to the outcome of the run, or are cut off on the way.
-use Rattle.std.proofs.Common.{◌≡◌, ℕ, List, [], Result, Ok, Err, refl, subst}
+use Rattle.std.proofs.Common.{◌≡◌, ℕ, List, [], Result, Ok, Err, IsErrAnd, refl, sym, subst}
 use Rattle.smol_edge.specs.Faults.{Rose}
 use Rattle.smol_edge.specs.Outlets.{Appends, AppendsFrontOf, Written}
 use Rattle.smol_edge.proofs.PieceFronts.{AppendsFrontOf-all, AppendsFrontOf-nothing}
@@ -76,3 +76,15 @@ loss_counts fault.OutputFault why before after is rose stays =
 loss_counts fault.OutOfMemory why before after is rose stays =
     let same : loss.Memory ≡ why = cc is in
     subst (λ (why : Loss). CountsLoss {T = Status} (Err why) before after) same (stays (λ same. cc same))
+
+-- the count of an answer that passes a loss on
+pub lost : (T : Type 0) (result : Result Status Loss) (why : Loss) (start before after : ℕ) → IsErrAnd result (λ answer. answer ≡ why)
+    → before ≡ start → CountsLoss {T = T} (Err why) before after → CountsLoss result start after
+lost T (Ok status) why start before after is same counts = absurd is
+lost T (Err answer) why start before after is same counts =
+    subst (λ (start : ℕ). CountsLoss {T = Status} (Err answer) start after) same
+    (subst (λ (answer : Loss). CountsLoss {T = Status} (Err answer) before after) (sym is) (of_run why counts))
+  where
+    of_run : (why : Loss) → CountsLoss {T = T} (Err why) before after → CountsLoss {T = Status} (Err why) before after
+    of_run loss.Output counts = counts
+    of_run loss.Memory counts = counts
