@@ -1,4 +1,4 @@
-use Rattle.std.proofs.Common.{Err, sym, ◌∙◌}
+use Rattle.std.proofs.Common.{Err, ap, sym, ◌∙◌}
 use Rattle.smol_edge.specs.Outlets.{Appends, AppendsFrontOf}
 use Rattle.smol_edge.proofs.Telling.{Tells-then, Tells-weaker}
 use Rattle.smol_meaning.specs.Run.{run_of}
@@ -84,7 +84,7 @@ returns-in_err-end-in-Err-clause-faults g c =
     (g.K.Outlets.faults c.open_all.new.outlets) (g.K.Outlets.faults c.simulate.new.outlets)
     c.from_residual-in_err-end-in-Err.ensures.1 c.in_ok-open_all.ensures.no_fault
     (loss_counts c.in-Err.fault c.in_err-end-in-Err.field-0.0 (g.K.Outlets.faults c.open_all.new.outlets) (g.K.Outlets.faults c.simulate.new.outlets)
-    (sym c.ended_by.ensures ∙ c.in_err-end-in-Err.was) c.in-Err.ensures.cause (λ other. c.in-Err.ensures.no_fault (λ same. other (cc))))
+    (sym c.ended_by.ensures ∙ c.in_err-end-in-Err.was) (λ is. c.in-Err.ensures.cause (ap (λ fault. Err fault) is)) (λ other. c.in-Err.ensures.no_fault (λ same. other (cc))))
 
 -- none failed in a run that has an end
 pub returns-in_err-text_of_end-in-Err-clause-faults : goal.returns-in_err-text_of_end-in-Err-clause-faults
