@@ -23,14 +23,17 @@ module _ (T : Type 0) (names : List (List ℕ)) (run : Result Stretch NoPlace) w
   -- what was printed until a fault is a front of the outcome, whatever the fault is
   pub printed_cut_off : (one : RunFault) (a b c : Written) → OpensAll names a b → Prints {T = T} run (Err one) b c
       → IsCutOff (outcome_of_run names run) a c
-  printed_cut_off (fault.NoPlace line serial) a b c opened printed = run_cut_off names run a b c opened (AppendsFrontOf-nothing (pieces_of run) b c printed)
-  printed_cut_off (fault.TooManyMolecules step) a b c opened printed = run_cut_off names run a b c opened (AppendsFrontOf-all (pieces_of run) b c printed)
+  printed_cut_off (fault.NoPlace line serial) a b c opened printed = run_cut_off names run a b c opened (AppendsFrontOf-nothing
+    (pieces_of run) b c printed)
+  printed_cut_off (fault.TooManyMolecules step) a b c opened printed = run_cut_off names run a b c opened (AppendsFrontOf-all
+    (pieces_of run) b c printed)
   printed_cut_off fault.OutputFault a b c opened printed = run_cut_off names run a b c opened printed
   printed_cut_off fault.OutOfMemory a b c opened printed = run_cut_off names run a b c opened printed
 
   -- an end that was told is the outcome
   pub end_told : (one : RunFault) (end : Ended) (a b c d : Written) → ended_by one ≡ Ok end → EndsAs {T = T} run (Err one)
-      → OpensAll names a b → Prints {T = T} run (Err one) b c → Appends (error_line (line_of_end end)) c d → EndsWith (outcome_of_run names run) (status_of_end end) a d
+      → OpensAll names a b → Prints {T = T} run (Err one) b c → Appends (error_line (line_of_end end)) c d → EndsWith
+      (outcome_of_run names run) (status_of_end end) a d
   end_told (fault.NoPlace line serial) end a b c d is ends opened printed told =
       let same : ended.NoPlace line serial ≡ end = cc is in
       subst (λ (end : Ended). Appends (error_line (line_of_end end)) c d → EndsWith (outcome_of_run names run) (status_of_end end) a d) same
@@ -44,7 +47,8 @@ module _ (T : Type 0) (names : List (List ℕ)) (run : Result Stretch NoPlace) w
 
   -- one whose line was cut off is a front of it
   pub end_cut_off : (one : RunFault) (end : Ended) (a b c d : Written) → ended_by one ≡ Ok end → EndsAs {T = T} run (Err one)
-      → OpensAll names a b → Prints {T = T} run (Err one) b c → AppendsFrontOf (error_line (line_of_end end)) c d → IsCutOff (outcome_of_run names run) a d
+      → OpensAll names a b → Prints {T = T} run (Err one) b c → AppendsFrontOf (error_line (line_of_end end)) c d → IsCutOff
+      (outcome_of_run names run) a d
   end_cut_off (fault.NoPlace line serial) end a b c d is ends opened printed told =
       let same : ended.NoPlace line serial ≡ end = cc is in
       subst (λ (end : Ended). AppendsFrontOf (error_line (line_of_end end)) c d → IsCutOff (outcome_of_run names run) a d) same
