@@ -24,9 +24,9 @@ module _ (T : Type 0) (names : List (List ℕ)) (run : Result Stretch NoPlace) w
   pub printed_cut_off : (one : RunFault) (a b c : Written) → OpensAll names a b → Prints {T = T} run (Err one) b c
       → IsCutOff (outcome_of_run names run) a c
   printed_cut_off (fault.NoPlace line serial) a b c opened printed = run_cut_off names run a b c opened (AppendsFrontOf-nothing
-    (pieces_of run) b c printed)
+      (pieces_of run) b c printed)
   printed_cut_off (fault.TooManyMolecules step) a b c opened printed = run_cut_off names run a b c opened (AppendsFrontOf-all
-    (pieces_of run) b c printed)
+      (pieces_of run) b c printed)
   printed_cut_off fault.OutputFault a b c opened printed = run_cut_off names run a b c opened printed
   printed_cut_off fault.OutOfMemory a b c opened printed = run_cut_off names run a b c opened printed
 
