@@ -53,7 +53,8 @@ pub record KeepsNames (old new : Blocks) : Type 0 where
   pub compartments : GoesOn old.compartments new.compartments
 
 -- how the reading of a block ends: what it gives is added and the index behind it answered, or its fault is told
-abbrev pub ReadsBlock : {T : Type 0} → (Blocks → Blocks → T → Type 0) → Result (T × ℕ) Fault → Blocks → Blocks → Result ℕ ConfigFault → Type 0
+abbrev pub ReadsBlock : {T : Type 0} → (Blocks → Blocks → T → Type 0) → Result (T × ℕ) Fault → Blocks → Blocks → Result ℕ ConfigFault
+    → Type 0
 ReadsBlock {T = T} Adds outcome old new (Ok next) = (draft : T) × (outcome ≡ Ok (draft, next)) × Adds old new draft
 ReadsBlock Adds outcome old new (Err fault) = TellsFault fault outcome
 

@@ -5,6 +5,7 @@ ghost use Rattle.smol_types.specs.Limits.{most_species};
 ghost use Rattle.smol_line.specs.Words.{word_at};
 ghost use Rattle.smol_blocks.specs.declared.block_statement.BlockStatement.{BlockStatement as TheBlockStatement};
 ghost use Rattle.smol_blocks.specs.declared.statement.Statement.TheVariants as statement;
+ghost use Rattle.smol_blocks.specs.declared.statement.Statement.TheVariants.{Block};
 ghost use Rattle.smol_blocks.specs.Statement.{statement_of};
 
 use crate::species_table::SpeciesTable;
@@ -270,7 +271,7 @@ impl Tables {
         line: &StatedLine<'_>,
     ) -> Result<(), Refusal>
         requires ready { AreReady self.old }
-        requires apart { (one : TheBlockStatement) → statement ≢ statement.Block one }
+        requires apart { (one : TheBlockStatement) → statement ≢ Block one }
         ensures { Reads (statement_in statement) line.now self.old self.new result }
     {
         match statement {
