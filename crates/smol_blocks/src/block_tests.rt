@@ -2,14 +2,13 @@
 ghost use Rattle.std.specs.Prelude.{◌≤◌, ◌^◌, unsigned_abs};
 ghost use Rattle.smol_line.specs.Axes.{AreAxes};
 
-use crate::block_statement::BlockStatement;
 use crate::blocks::Blocks;
-use crate::tests::{surface_statement, text_of, two_species};
+use crate::tests::{text_of, two_species};
 use smol_geom::{Place, Rect};
-use smol_line::{Axes, Bounds, NameSet, Refusal, spells, word_at};
+use smol_line::{Axes, Bounds, NameSet, spells, word_at};
 use smol_num::Micro;
-use smol_text::{StatedLine, Text};
-use smol_types::{Action, Face, Kind, Letter, Need, Panel};
+use smol_text::Text;
+use smol_types::{Action, ConfigFault, Face, Kind, Letter, Need, Panel};
 use std::alloc::Global;
 use std::test::Fail;
 
@@ -58,29 +57,38 @@ surface a
 point 5 7
 end_compartment";
 
-// Lines of blocks, and the fault of the last line.
-const REFUSED: [(&str, Kind); 13] = [
-    ("panel rect +x 0 0 1", Kind::BadOrder),
-    ("surface s", Kind::BadOrder),
-    ("end_compartment", Kind::BadOrder),
-    ("start_surface s\nstart_compartment c d", Kind::BadOrder),
-    ("start_compartment c\nstart_surface s", Kind::BadOrder),
-    ("start_surface s\nend_compartment", Kind::BadOrder),
-    ("start_compartment c\nend_surface", Kind::BadOrder),
-    ("start_surface", Kind::WrongWordCount),
-    ("start_surface s\nend_surface s", Kind::WrongWordCount),
+// Lines of blocks, and the line and the kind of their fault.
+const REFUSED: [(&str, u32, Kind); 15] = [
+    ("start_surface s\nstart_compartment c d", 2, Kind::BadOrder),
+    ("start_compartment c\nstart_surface s", 2, Kind::BadOrder),
+    ("start_surface s\nend_compartment", 2, Kind::BadOrder),
+    ("start_compartment c\nend_surface", 2, Kind::BadOrder),
+    ("start_compartment c\nmol", 2, Kind::BadOrder),
+    ("start_surface s\nplane", 2, Kind::UnknownStatement),
+    ("start_surface s\ndrift", 2, Kind::NotInProfile),
+    ("start_surface", 1, Kind::WrongWordCount),
+    ("start_surface s\nend_surface s", 2, Kind::WrongWordCount),
     (
         "start_surface s\nend_surface\nstart_surface s",
+        3,
         Kind::RepeatedName,
     ),
-    ("start_compartment c\nsurface s", Kind::UnknownName),
+    ("start_compartment c\nsurface s", 2, Kind::UnknownName),
     (
         "start_compartment c\nend_compartment",
+        2,
         Kind::Missing(Need::Point),
     ),
     (
         "start_compartment c\nend_compartment c",
+        2,
         Kind::WrongWordCount,
+    ),
+    ("start_surface s\naction both all r", 1, Kind::OpenBlock),
+    (
+        "start_surface s\nend_surface\nstart_compartment c\nlight 0\npoint 1 1",
+        3,
+        Kind::OpenBlock,
     ),
 ];
 
@@ -122,46 +130,32 @@ point 1 1
 point 1 1
 ";
 
-fn statement(line: &StatedLine<'_>) -> BlockStatement {
-    let word = word_at(line, 0);
-    if spells(word, "start_surface") {
-        BlockStatement::StartSurface
-    } else if spells(word, "end_surface") {
-        BlockStatement::EndSurface
-    } else if spells(word, "start_compartment") {
-        BlockStatement::StartCompartment
-    } else if spells(word, "surface") {
-        BlockStatement::Surface
-    } else if spells(word, "point") {
-        BlockStatement::Point
-    } else if spells(word, "end_compartment") {
-        BlockStatement::EndCompartment
-    } else {
-        BlockStatement::InSurface(surface_statement(line))
-    }
-}
-
+// Reads blocks one behind the other.
 fn read_blocks(
     alloc: Global,
     axes: &Axes,
     species: &NameSet,
     text: &Text,
-) -> Result<Blocks, Refusal>
+) -> Result<Blocks, ConfigFault>
     requires { AreAxes axes.now }
 {
     if species.len() > 256 {
-        return Err(Refusal::OutOfMemory);
+        return Err(ConfigFault::OutOfMemory);
     }
     let mut blocks = Blocks::new(alloc);
-    for k in 0..text.len() {
-        let line = text.line(k);
-        blocks.read(alloc, statement(&line), axes, species, &line)?;
+    let mut at = 0;
+    while at < text.len() {
+        at = if spells(word_at(&text.line(at), 0), "start_surface") {
+            blocks.read_surface(alloc, axes, species, text, at)?
+        } else {
+            blocks.read_compartment(alloc, axes, text, at)?
+        };
     }
     Ok(blocks)
 }
 
 // The fault of a text where these axes are given, beside no species.
-fn fault_of(alloc: Global, axes: &Axes, lines: &str) -> Result<Option<Refusal>, Fail>
+fn fault_of(alloc: Global, axes: &Axes, lines: &str) -> Result<Option<ConfigFault>, Fail>
     requires { AreAxes axes.now }
 {
     let text = text_of(alloc, lines)?;
@@ -170,24 +164,32 @@ fn fault_of(alloc: Global, axes: &Axes, lines: &str) -> Result<Option<Refusal>, 
 
 #[test]
 fn blocks_are_judged(rt: HostRuntime) -> Result<(), Fail> {
-    for (lines, kind) in REFUSED {
+    for (lines, line, kind) in REFUSED {
         let fault = fault_of(rt.alloc(), &TWO_AXES, lines)?;
-        assert_eq!(rt; fault, Some(Refusal::At(kind)), "{lines}");
+        assert_eq!(rt; fault, Some(ConfigFault::At { line, kind }), "{lines}");
     }
     Ok(())
+}
+
+// The statement of this line is out of place.
+fn bad_order(line: u32) -> ConfigFault {
+    ConfigFault::At {
+        line,
+        kind: Kind::BadOrder,
+    }
 }
 
 #[test]
 fn blocks_need_axes(rt: HostRuntime) -> Result<(), Fail> {
     let early = fault_of(rt.alloc(), &NO_DIM, "start_surface")?;
-    assert_eq!(rt; early, Some(Refusal::At(Kind::BadOrder)));
+    assert_eq!(rt; early, Some(bad_order(1)));
     let unwalled = fault_of(rt.alloc(), &NO_WALLS, "start_compartment c\npoint")?;
-    assert_eq!(rt; unwalled, Some(Refusal::At(Kind::BadOrder)));
+    assert_eq!(rt; unwalled, Some(bad_order(2)));
     Ok(())
 }
 
 // The fault of a full compartment with one more line.
-fn fault_behind(alloc: Global, more: &str) -> Result<Option<Refusal>, Fail> {
+fn fault_behind(alloc: Global, more: &str) -> Result<Option<ConfigFault>, Fail> {
     let lines = format!(in alloc; "{FULL}{more}")?;
     fault_of(alloc, &TWO_AXES, lines.as_str())
 }
@@ -200,7 +202,8 @@ fn compartments_have_room(rt: HostRuntime) -> Result<(), Fail> {
         ("point 1 1", Some(Kind::TooMany)),
     ] {
         let fault = fault_behind(rt.alloc(), more)?;
-        assert_eq!(rt; fault, kind.map(Refusal::At), "{more}");
+        let told = kind.map(|kind| ConfigFault::At { line: 36, kind });
+        assert_eq!(rt; fault, told, "{more}");
     }
     Ok(())
 }

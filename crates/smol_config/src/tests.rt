@@ -119,8 +119,10 @@ const REACTIONS: [(&str, u32, Kind); 7] = [
 ];
 
 // The same of blocks and of molecules in compartments.
-const BLOCKS: [(&str, u32, Kind); 16] = [
+const BLOCKS: [(&str, u32, Kind); 18] = [
     ("action front A r", 9, Kind::BadOrder),
+    ("surface s", 9, Kind::BadOrder),
+    ("end_compartment", 9, Kind::BadOrder),
     ("start_surface s\nspecies A", 10, Kind::BadOrder),
     ("start_surface s\ndim", 10, Kind::BadOrder),
     ("start_surface s\nstart_surface s", 10, Kind::BadOrder),
