@@ -629,7 +629,7 @@ fn each_front_of_a_file_has_an_answer(rt: HostRuntime) -> Result<(), Fail> {
     let mut accepted = 0u32;
     for end in 0..text.len() + 1 {
         match read_config(rt.alloc(), &text[..end]) {
-            Ok(_) => accepted += 1,
+            Ok(_) => accepted = accepted.saturating_add(1),
             Err(fault) => assert!(rt; fault != ConfigFault::OutOfMemory, "{end}"),
         }
     }
