@@ -5,11 +5,7 @@ mod action;
 mod action_table;
 mod block_name;
 mod block_statement;
-#[cfg(test)]
-mod block_tests;
 mod blocks;
-#[cfg(test)]
-mod call_tests;
 mod close_surface;
 mod compartment;
 mod compartment_block;
