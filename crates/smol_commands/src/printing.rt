@@ -156,12 +156,12 @@ fn add_positions(
 }
 
 // Adds the coordinates of a place, each behind a space.
-fn add_place(config: &Config, place: &Place, page: &mut Vec<u8>) -> Result<(), AllocError>
+fn add_place(config: &Config, place: Place, page: &mut Vec<u8>) -> Result<(), AllocError>
     requires { 0 < config.now.dims }
-    ensures { OnOk result (page.new.items ≡ page.old.items ++ place_text config.now place.now) }
+    ensures { OnOk result (page.new.items ≡ page.old.items ++ place_text config.now place) }
 {
     page.push(b' ')?;
-    line_of_place(config, place, page)
+    line_of_place(config, &place, page)
 }
 
 // Adds the coordinates of the molecules meant.
@@ -177,7 +177,7 @@ fn add_places(
 {
     for mol in mols {
         if is_meant(who, mol) {
-            add_place(config, &mol.place, page)?;
+            add_place(config, mol.place, page)?;
         }
     }
     Ok(())

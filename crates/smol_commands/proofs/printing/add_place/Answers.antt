@@ -5,7 +5,7 @@ use Rattle.smol_commands.proofs.printing.add_place.Goals as goal
 
 pub returns : goal.returns
 returns c =
-    let place = c.args.place.now in
+    let place = c.args.place in
     let text = place_text c.args.config.now place in
     let old = c.args.page.now.items in
     let all : c.push.new.self.items ++ drop 1 text ≡ old ++ text =

@@ -25,7 +25,7 @@ pub reacted-requires-clause-step : goal.reacted-requires-clause-step
 reacted-requires-clause-step g c = let sound = c.requires.sound in omega (arith, c.requires.further, sound.steps)
 
 pub reacted-requires-clause-count : goal.reacted-requires-clause-count
-reacted-requires-clause-count g c =
+reacted-requires-clause-count g c _ _ =
     let config = c.args.config.now in
     let state = c.args.state in
     let mols : c.diffuse.new.mols.items ≡ all_diffused config c.args.seed (state.step + 1) state.mols =
@@ -33,7 +33,7 @@ reacted-requires-clause-count g c =
     omega (arith, ap length mols, diffused_few config c.requires.sound c.args.seed state c.requires.fits)
 
 pub reacted-requires-clause-serials : goal.reacted-requires-clause-serials
-reacted-requires-clause-serials g c =
+reacted-requires-clause-serials g c _ _ =
     let config = c.args.config.now in
     let state = c.args.state in
     let mols : c.diffuse.new.mols.items ≡ all_diffused config c.args.seed (state.step + 1) state.mols =
@@ -42,7 +42,7 @@ reacted-requires-clause-serials g c =
     (Ascend-to 0 state.next last_serial _ c.requires.fits.next (diffused_ascend config c.args.seed (state.step + 1) 0 state.next state.mols c.requires.fits.serials))
 
 pub reacted-requires-clause-placed : goal.reacted-requires-clause-placed
-reacted-requires-clause-placed g c =
+reacted-requires-clause-placed g c _ _ =
     let config = c.args.config.now in
     let state = c.args.state in
     let mols : c.diffuse.new.mols.items ≡ all_diffused config c.args.seed (state.step + 1) state.mols =
