@@ -230,8 +230,8 @@ compartment_reads tables blocks all at line result here is kept reads before h s
 line_by : (statement : Statement) (tables : Tables) (line : Stated) (before : List Said) (found : Result Said Kind) → statement ≡ statement_of (word_at line 0) → Holds tables before
     → statement_in statement before line ≡ found → line_in before line ≡ found
 unfolding line_in
-line_by statement tables line before found is h says =
-    ap (λ (one : Statement). placed_in one before line) (sym is) ∙ placed statement line tables before h ∙ says
+line_by statement tables line before found is h gives =
+    ap (λ (one : Statement). placed_in one before line) (sym is) ∙ placed statement line tables before h ∙ gives
 
 -- how the reading of a line ends that is taken
 pub line_taken : (statement : Statement) (old new : Tables) (all : List Stated) (at : ℕ) (line : Stated) → drop at all ≡ line ∷ drop (at + 1) all → statement ≡ statement_of (word_at line 0)

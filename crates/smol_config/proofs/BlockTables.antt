@@ -26,7 +26,7 @@ use Rattle.smol_config.specs.Times.{time_start_of, time_stop_of, time_step_of}
 use Rattle.smol_config.proofs.BlockLines.{compartment_told, surface_told}
 
 -- the tables hold what lines say of all else, and these are the names, and the block that is open, by what lines say of blocks
-pub record Within (tables : Tables) (surfaces compartments : List (List ℕ)) (block : TheBlock) (before : List Said) : Type 0 where
+pub record Within (tables : Tables) (surface_list compartment_list : List (List ℕ)) (open_block : TheBlock) (before : List Said) : Type 0 where
   pub axes : tables.axes ≡ axes_of before
   pub species : tables.species.names ≡ species_of before
   pub motions : (number : ℕ) → slice_index_or tables.species.motions.items number still ≡ motion_of number before
@@ -39,12 +39,12 @@ pub record Within (tables : Tables) (surfaces compartments : List (List ℕ)) (b
   pub reactions : HoldsReactions tables.reactions (reactions_said before)
   pub outputs : tables.outputs ≡ outputs_of before
   pub commands : tables.commands ≡ commands_of before
-  pub surface_names : surfaces ≡ surface_names (blocks_said before)
+  pub surface_names : surface_list ≡ surface_names (blocks_said before)
   pub surfaces : tables.blocks.surfaces ≡ surfaces_of (blocks_said before)
   pub panels : tables.blocks.panels ≡ panels_of (blocks_said before)
-  pub compartment_names : compartments ≡ compartment_names (blocks_said before)
+  pub compartment_names : compartment_list ≡ compartment_names (blocks_said before)
   pub compartments : tables.blocks.compartments ≡ compartments_of (blocks_said before)
-  pub block : block_of (blocks_said before) ≡ block
+  pub block : block_of (blocks_said before) ≡ open_block
 
 -- a line that is passed over
 within_passed : (tables : Tables) (surfaces compartments : List (List ℕ)) (block : TheBlock) (before : List Said) → Within tables surfaces compartments block before → Within tables surfaces compartments block (passed_over ∷ before)

@@ -308,6 +308,8 @@ impl Tables {
         ensures reads { ReadsOn (stated_lines text.now) at self.old self.new result }
         ensures next { IfOk result (λ next. (at < next) × (next ≤ length (stated_lines text.now))) }
     {
+        let end = text.len();
+        prove!(at < end);
         let line = text.line(at);
         match Statement::of(word_at(&line, 0)) {
             Statement::Block(one) => self.read_block(alloc, one, text, at, &line),

@@ -14,7 +14,7 @@ pub loop-at-preserved : goal.loop-at-preserved
 loop-at-preserved c =
     let before = c.loop-at.invariant.read in
     let after = c.in_ok-at.ensures.reads before.0 before.1 before.2 in
-    record { within = omega arith; read = (after.0, after.1, after.2, before.3 ∙ after.3) }
+    record { within = c.in_ok-at.ensures.next.1; read = (after.0, after.1, after.2, before.3 ∙ after.3) }
 
 pub returns-in_err-at-clause-refused : goal.returns-in_err-at-clause-refused
 returns-in_err-at-clause-refused c =
