@@ -1,5 +1,5 @@
 -- A fault of a run and the line that tells it come to the outcome of the run, or are cut off on the way.
-use Rattle.std.proofs.Common.{◌≡◌, ℕ, List, [], Result, Ok, Err, refl, subst}
+use Rattle.std.proofs.Common.{◌≡◌, ℕ, List, [], Result, Ok, Err, IsErrAnd, refl, sym, subst}
 use Rattle.smol_edge.specs.Faults.{Rose}
 use Rattle.smol_edge.specs.Outlets.{Appends, AppendsFrontOf, Written}
 use Rattle.smol_edge.proofs.PieceFronts.{AppendsFrontOf-all, AppendsFrontOf-nothing}
@@ -23,14 +23,17 @@ module _ (T : Type 0) (names : List (List ℕ)) (run : Result Stretch NoPlace) w
   -- what was printed until a fault is a front of the outcome, whatever the fault is
   pub printed_cut_off : (one : RunFault) (a b c : Written) → OpensAll names a b → Prints {T = T} run (Err one) b c
       → IsCutOff (outcome_of_run names run) a c
-  printed_cut_off (fault.NoPlace line serial) a b c opened printed = run_cut_off names run a b c opened (AppendsFrontOf-nothing (pieces_of run) b c printed)
-  printed_cut_off (fault.TooManyMolecules step) a b c opened printed = run_cut_off names run a b c opened (AppendsFrontOf-all (pieces_of run) b c printed)
+  printed_cut_off (fault.NoPlace line serial) a b c opened printed = run_cut_off names run a b c opened (AppendsFrontOf-nothing
+    (pieces_of run) b c printed)
+  printed_cut_off (fault.TooManyMolecules step) a b c opened printed = run_cut_off names run a b c opened (AppendsFrontOf-all
+    (pieces_of run) b c printed)
   printed_cut_off fault.OutputFault a b c opened printed = run_cut_off names run a b c opened printed
   printed_cut_off fault.OutOfMemory a b c opened printed = run_cut_off names run a b c opened printed
 
   -- an end that was told is the outcome
   pub end_told : (one : RunFault) (end : Ended) (a b c d : Written) → ended_by one ≡ Ok end → EndsAs {T = T} run (Err one)
-      → OpensAll names a b → Prints {T = T} run (Err one) b c → Appends (error_line (line_of_end end)) c d → EndsWith (outcome_of_run names run) (status_of_end end) a d
+      → OpensAll names a b → Prints {T = T} run (Err one) b c → Appends (error_line (line_of_end end)) c d → EndsWith
+      (outcome_of_run names run) (status_of_end end) a d
   end_told (fault.NoPlace line serial) end a b c d is ends opened printed told =
       let same : ended.NoPlace line serial ≡ end = cc is in
       subst (λ (end : Ended). Appends (error_line (line_of_end end)) c d → EndsWith (outcome_of_run names run) (status_of_end end) a d) same
@@ -44,7 +47,8 @@ module _ (T : Type 0) (names : List (List ℕ)) (run : Result Stretch NoPlace) w
 
   -- one whose line was cut off is a front of it
   pub end_cut_off : (one : RunFault) (end : Ended) (a b c d : Written) → ended_by one ≡ Ok end → EndsAs {T = T} run (Err one)
-      → OpensAll names a b → Prints {T = T} run (Err one) b c → AppendsFrontOf (error_line (line_of_end end)) c d → IsCutOff (outcome_of_run names run) a d
+      → OpensAll names a b → Prints {T = T} run (Err one) b c → AppendsFrontOf (error_line (line_of_end end)) c d → IsCutOff
+      (outcome_of_run names run) a d
   end_cut_off (fault.NoPlace line serial) end a b c d is ends opened printed told =
       let same : ended.NoPlace line serial ≡ end = cc is in
       subst (λ (end : Ended). AppendsFrontOf (error_line (line_of_end end)) c d → IsCutOff (outcome_of_run names run) a d) same
@@ -76,3 +80,15 @@ loss_counts fault.OutputFault why before after is rose stays =
 loss_counts fault.OutOfMemory why before after is rose stays =
     let same : loss.Memory ≡ why = cc is in
     subst (λ (why : Loss). CountsLoss {T = Status} (Err why) before after) same (stays (λ same. cc same))
+
+-- the count of an answer that passes a loss on
+pub lost : (T : Type 0) (result : Result Status Loss) (why : Loss) (start before after : ℕ) → IsErrAnd result (λ answer. answer ≡ why)
+    → before ≡ start → CountsLoss {T = T} (Err why) before after → CountsLoss result start after
+lost T (Ok status) why start before after is same counts = absurd is
+lost T (Err answer) why start before after is same counts =
+    subst (λ (start : ℕ). CountsLoss {T = Status} (Err answer) start after) same
+    (subst (λ (answer : Loss). CountsLoss {T = Status} (Err answer) before after) (sym is) (of_run why counts))
+  where
+    of_run : (why : Loss) → CountsLoss {T = T} (Err why) before after → CountsLoss {T = Status} (Err why) before after
+    of_run loss.Output counts = counts
+    of_run loss.Memory counts = counts

@@ -15,31 +15,31 @@ returns-in-Ok-write_pages-clause-given g c =
     (performed_at_prints c.args.config.now c.args.streams.now c.args.c c.args.state.now c.outlet_count-count.ensures.sound)
     c.requires.blank c.in-Ok.ensures.performed.pages c.in-Ok-write_pages.ensures.appended
 
-pub returns-in-Err-clause-given : goal.returns-in-Err-clause-given
-returns-in-Err-clause-given g c =
+pub returns-in-Err-write_pages-clause-given : goal.returns-in-Err-write_pages-clause-given
+returns-in-Err-write_pages-clause-given g c =
     command_cut _ (performed_at c.args.config.now c.args.streams.now c.args.c c.args.state.now) _ _ _ _
     (performed_at_prints c.args.config.now c.args.streams.now c.args.c c.args.state.now c.outlet_count-count.ensures.sound)
-    c.requires.blank c.in-Ok.ensures.performed.pages c.in-Err.ensures.front_appended
+    c.requires.blank c.in-Ok.ensures.performed.pages c.in-Err-write_pages.ensures.front_appended
 
 -- too many molecules are told by the step of the state as it was
-pub returns-in-Err-perform-clause-ended : goal.returns-in-Err-perform-clause-ended
-returns-in-Err-perform-clause-ended g c =
+pub returns-in-Err-clause-ended : goal.returns-in-Err-clause-ended
+returns-in-Err-clause-ended g c =
     let part = performed_at c.args.config.now c.args.streams.now c.args.c c.args.state.now in
     subst (λ (one : RunFault). EndsPart part c.perform.new.state (Err one)) (sym c.fault_of_command.ensures)
-    (command_ends part c.perform.new.state c.args.state.now.step c.in-Err-perform.fault
-    (λ is. c.in-Err-perform.ensures.too_many (ap (λ fault. Err fault) is)))
+    (command_ends part c.perform.new.state c.args.state.now.step c.in-Err.fault
+    (λ is. c.in-Err.ensures.too_many (ap (λ fault. Err fault) is)))
 
-pub returns-in-Err-perform-clause-given : goal.returns-in-Err-perform-clause-given
-returns-in-Err-perform-clause-given g c =
+pub returns-in-Err-clause-given : goal.returns-in-Err-clause-given
+returns-in-Err-clause-given g c =
     let part = performed_at c.args.config.now c.args.streams.now c.args.c c.args.state.now in
     let prints = performed_at_prints c.args.config.now c.args.streams.now c.args.c c.args.state.now c.outlet_count-count.ensures.sound in
     let told = g.K.Outlets.told c.args.outlets.now in
     subst (λ (one : RunFault). Tells told told (GivesPart {T = Flow} part.pieces (Err one))) (sym c.fault_of_command.ensures)
-    (command_gives part c.args.state.now.step told c.in-Err-perform.fault
-    (λ is. prints.over _ (c.in-Err-perform.ensures.too_many (ap (λ fault. Err fault) is))))
+    (command_gives part c.args.state.now.step told c.in-Err.fault
+    (λ is. prints.over _ (c.in-Err.ensures.too_many (ap (λ fault. Err fault) is))))
 
-pub returns-in-Err-perform-clause-faults : goal.returns-in-Err-perform-clause-faults
-returns-in-Err-perform-clause-faults g c =
+pub returns-in-Err-clause-faults : goal.returns-in-Err-clause-faults
+returns-in-Err-clause-faults g c =
     let count = g.K.Outlets.faults c.args.outlets.now in
     subst (λ (one : RunFault). CountsFault {T = Flow} (Err one) count count) (sym c.fault_of_command.ensures)
-    (command_counts c.args.state.now.step count c.in-Err-perform.fault)
+    (command_counts c.args.state.now.step count c.in-Err.fault)
