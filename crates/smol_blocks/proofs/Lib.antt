@@ -1,4 +1,9 @@
-pub mod BlocksHeld
+pub mod StatementLemmas
+pub mod BlockOpening
+pub mod SurfaceMade
+pub mod BlockReading
+pub mod SurfaceBlock
+pub mod CompartmentBlock
 pub mod SurfaceHeld
 pub mod SoundValues
 pub mod SoundPanel

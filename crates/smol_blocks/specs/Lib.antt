@@ -8,4 +8,9 @@ pub mod Compartment
 pub mod BlockName
 pub mod Blocks
 pub mod BlocksTable
+pub mod Statement
+pub mod BlockText
+pub mod BlockReads
+pub mod Names
+pub mod Told
 pub mod BlocksSound

@@ -1,5 +1,5 @@
 //! The surface and the panels that come of a surface's block.
-ghost use Rattle.std.specs.Prelude.{◌≡◌, ◌+◌, ◌++◌, ◌<◌, ◌≤◌, ◌^◌, List, length, IfSome, OnOk};
+ghost use Rattle.std.specs.Prelude.{◌≡◌, ◌+◌, ◌<◌, ◌≤◌, ◌^◌, List, length, IfOk, IfSome};
 ghost use Rattle.smol_types.specs.Limits.{most_panels};
 ghost use Rattle.smol_blocks.specs.Surface.{SurfaceSaid};
 ghost use Rattle.smol_blocks.specs.SurfaceTable.{ArePaired, Holds};
@@ -8,7 +8,7 @@ ghost use Rattle.smol_blocks.specs.Blocks.{numbered_face, panels_in};
 use crate::action_table::ActionTable;
 use crate::surface_table::SurfaceTable;
 use smol_types::{Face, Items, Panel, Surface};
-use std::alloc::AllocError;
+use std::alloc::{AllocError, Global};
 
 // A panel of a surface by its number over the whole file, where so many panels of other surfaces stand before.
 fn numbered_face(others: usize, to: Option<(u16, Face)>) -> Option<(u16, Face)>
@@ -21,19 +21,19 @@ fn numbered_face(others: usize, to: Option<(u16, Face)>) -> Option<(u16, Face)>
     }
 }
 
-/// Adds the panels of the surface of this number behind those of other surfaces.
-pub fn add_panels(
-    panels: &mut Items<Panel>,
+/// The panels of the surface of this number, where so many of other surfaces stand before.
+pub fn panels_of(
+    alloc: Global,
     table: &SurfaceTable,
     surface: u16,
-) -> Result<(), AllocError>
+    others: usize,
+) -> Result<Items<Panel>, AllocError>
     requires paired { ArePaired table.now.panels }
-    requires few { length panels.old + length table.now.panels.names ≤ most_panels }
-    ensures added { OnOk result ((lines : List SurfaceSaid) → Holds table.now lines
-        → panels.new ≡ panels.old ++ panels_in surface (length panels.old) lines) }
-    ensures count { OnOk result (length panels.new ≡ length panels.old + length table.now.panels.names) }
+    requires few { others + length table.now.panels.names ≤ most_panels }
+    ensures panels { IfOk result (λ panels. (lines : List SurfaceSaid) → Holds table.now lines → panels ≡ panels_in surface others lines) }
+    ensures count { IfOk result (λ panels. length panels ≡ length table.now.panels.names) }
 {
-    let others = panels.len();
+    let mut panels = Items::new(alloc);
     for k in 0..table.panels.rects.len() {
         panels.push(Panel {
             rect: table.panels.rects[k],
@@ -43,7 +43,7 @@ pub fn add_panels(
             back_to: numbered_face(others, table.panels.back_to[k]),
         })?;
     }
-    Ok(())
+    Ok(panels)
 }
 
 /// The surface whose faces do this.

@@ -1,5 +1,6 @@
 //! What the lines of a compartment's block say.
-ghost use Rattle.std.specs.Prelude.{◌≡◌, ◌<◌, ◌≤◌, List, pos, length, OnOk};
+ghost use Rattle.std.specs.Prelude.{◌≡◌, ◌<◌, ◌≤◌, List, pos, length, Ok, Err, OnOk};
+ghost use Rattle.smol_types.specs.declared.fault.Kind.{Kind as TheKind};
 ghost use Rattle.smol_types.specs.Limits.{most_bounds, most_points, most_surfaces};
 ghost use Rattle.smol_line.specs.Axes.{read_axis, read_axes};
 ghost use Rattle.smol_blocks.specs.Compartment.{CompartmentSaid, bound_in, compartment_of, end_compartment_in, point_in, point_word};
@@ -82,15 +83,15 @@ pub fn point_in(
     Ok(Place(at))
 }
 
-/// The compartment of a block that a line closes.
+/// Whether a line may close the block of a compartment.
 #[tactic(auto, unfolding(crate::specs::Compartment::end_compartment_in))]
-pub fn end_compartment_in(
-    compartment: Compartment,
-    line: &StatedLine<'_>,
-) -> Result<Compartment, Kind>
-    ensures { (lines : List CompartmentSaid) → compartment ≡ compartment_of lines → result ≡ end_compartment_in lines line.now }
+pub fn closes_compartment(compartment: &Compartment, line: &StatedLine<'_>) -> Result<(), Kind>
+    ensures accepted { OnOk result ((lines : List CompartmentSaid) → compartment.now ≡ compartment_of lines
+        → end_compartment_in lines line.now ≡ Ok (compartment_of lines)) }
+    ensures refused { (kind : TheKind) (lines : List CompartmentSaid) → result ≡ Err kind → compartment.now ≡ compartment_of lines
+        → end_compartment_in lines line.now ≡ Err kind }
 {
     word_count(1, line)?;
     unless(!compartment.points.is_empty(), Kind::Missing(Need::Point))?;
-    Ok(compartment)
+    Ok(())
 }

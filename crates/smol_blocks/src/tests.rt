@@ -1,229 +1,162 @@
-//! What the lines of a block say together, and the first of them that is refused.
-ghost use Rattle.std.specs.Prelude.{◌≤◌};
+//! Both calls that read a block, on whole texts.
+ghost use Rattle.std.specs.Prelude.{IfOk};
+ghost use Rattle.smol_blocks.specs.Names.{AreNames};
 
-use crate::surface_statement::SurfaceStatement;
-use crate::surface_table::SurfaceTable;
-use smol_geom::Rect;
-use smol_line::{NameSet, Refusal, new_name_in, spells, word_at};
-use smol_text::{StatedLine, Text, TextFault, split_lines};
-use smol_types::{Action, Face, Kind};
+use crate::compartment_block::read_compartment;
+use crate::names::Names;
+use crate::surface_block::read_surface;
+use smol_geom::{Place, Rect};
+use smol_line::{NameSet, Refusal, new_name_in};
+use smol_text::{Text, TextFault, split_lines};
+use smol_types::{Action, Items, Letter, Panel, Wall};
 use std::alloc::Global;
 use std::test::Fail;
 
-// How many axes are in use, lines of a block where there are the species A and B, and the fault of the last line.
-const ACTIONS: [(u8, &str, Option<Kind>); 10] = [
-    (3, "action front A reflect", None),
-    (3, "action A(soln) back t", None),
-    (3, "action both all jump", None),
-    (3, "action front A", Some(Kind::WrongWordCount)),
-    (3, "action x y z w", Some(Kind::WrongWordCount)),
-    (3, "action A B r", Some(Kind::BadFace)),
-    (3, "action front back r", Some(Kind::UnknownName)),
-    (3, "action front C x", Some(Kind::UnknownName)),
-    (3, "action A(front) both x", Some(Kind::NotInProfile)),
-    (3, "action all both R", Some(Kind::BadAction)),
-];
+const SURFACES: &str = "dim 3
+species A
+boundaries x 0 100 r
+boundaries y 0 100 r
+boundaries z 0 100 r
+time_start 0
+time_stop 1
+time_step 1
+species B
+start_surface s1
+panel rect +0 60 0 0 50 100
+end_surface
+start_surface s2
+action both all reflect
+panel rect +0 60 50 0 50 100
+end_surface
+";
 
-const PANELS: [(u8, &str, Option<Kind>); 9] = [
-    (3, "panel", Some(Kind::WrongWordCount)),
-    (3, "panel disk", Some(Kind::NotInProfile)),
-    (3, "panel rect +0 0 0 0 1", Some(Kind::WrongWordCount)),
-    (3, "panel rect +0 0 0 0 1 1 a b", Some(Kind::WrongWordCount)),
-    (3, "panel r -z 0 0 0 1 1", None),
-    (3, "panel rect 0 0 0 0 1 1", Some(Kind::BadFace)),
-    (3, "panel rect +X 0 0 0 1 1", Some(Kind::BadFace)),
-    (2, "panel rect +2 a 0 1", Some(Kind::OutOfRange)),
-    (1, "panel rect +0 5", None),
-];
+const COMPARTMENT: &str = "dim 3
+species A
+boundaries x 0 100 r
+boundaries y 0 100 r
+boundaries z 0 100 r
+time_start 0
+time_stop 1
+time_step 1
+start_surface s
+panel rect +0 100 0 0 100 100
+end_surface
+start_compartment c
+surface s
+point 150 50 50
+end_compartment
+";
 
-const NUMBERS: [(u8, &str, Option<Kind>); 8] = [
-    (3, "panel rect +x 0 0 a 0 1", Some(Kind::NotNumber)),
-    (3, "panel rect +x 0 0 0 0 1", Some(Kind::OutOfRange)),
-    (
-        3,
-        "panel rect +x 0 1000000 0 1e-6 1",
-        Some(Kind::OutOfRange),
-    ),
-    (3, "panel rect +x 0 -1000000 0 2000000 1", None),
-    (3, "panel rect +x 0 0 0 1 1 all", Some(Kind::NotInProfile)),
-    (
-        2,
-        "panel rect +x 0 0 1 a\npanel rect +x 0 0 1 a",
-        Some(Kind::RepeatedName),
-    ),
-    (
-        2,
-        "panel rect +x 0 0 1 rect1\npanel rect +x 0 0 1",
-        Some(Kind::RepeatedName),
-    ),
-    (
-        2,
-        "panel rect +x 0 0 1\npanel rect +x 0 0 1 rect0",
-        Some(Kind::RepeatedName),
-    ),
-];
-
-const JUMPS: [(u8, &str, Option<Kind>); 9] = [
-    (
-        1,
-        "panel rect +x 0\npanel rect -x 5\njump rect0 front -> rect1 back",
-        None,
-    ),
-    (1, "panel rect +x 0\njump rect0 front <-> rect0 front", None),
-    (
-        1,
-        "panel rect +x 0\njump rect0 front -> rect0",
-        Some(Kind::WrongWordCount),
-    ),
-    (
-        1,
-        "panel rect +x 0\njump a x x x x",
-        Some(Kind::UnknownName),
-    ),
-    (
-        1,
-        "panel rect +x 0\njump rect0 both -> rect0 back",
-        Some(Kind::BadFace),
-    ),
-    (
-        1,
-        "panel rect +x 0\njump rect0 front <- a back",
-        Some(Kind::BadJump),
-    ),
-    (
-        1,
-        "panel rect +x 0\njump rect0 front -> a x",
-        Some(Kind::UnknownName),
-    ),
-    (
-        2,
-        "panel rect +x 0 0 1\npanel rect +y 0 0 1\njump rect0 front -> rect1 back",
-        Some(Kind::BadJump),
-    ),
-    (
-        2,
-        "panel rect +x 0 0 1\npanel rect +x 0 0 2\njump rect0 front -> rect1 back",
-        Some(Kind::BadJump),
-    ),
-];
-
-pub fn surface_statement(line: &StatedLine<'_>) -> SurfaceStatement {
-    if spells(word_at(line, 0), "action") {
-        SurfaceStatement::Action
-    } else if spells(word_at(line, 0), "panel") {
-        SurfaceStatement::Panel
-    } else {
-        SurfaceStatement::Jump
-    }
-}
-
-pub fn two_species(alloc: Global) -> Result<NameSet, Refusal> {
-    let mut species = NameSet::new(alloc);
-    let first = new_name_in(&species, b"A")?;
-    species.add(alloc, first)?;
-    let second = new_name_in(&species, b"B")?;
-    species.add(alloc, second)?;
-    Ok(species)
-}
-
-pub fn text_of(alloc: Global, lines: &str) -> Result<Text, TextFault> {
+fn text_of(alloc: Global, lines: &str) -> Result<Text, TextFault> {
     if lines.len() > 4_194_304 {
         return Err(TextFault::OutOfMemory);
     }
     split_lines(alloc, lines.as_bytes())
 }
 
-fn read_block(
-    alloc: Global,
-    dims: u8,
-    species: &NameSet,
-    text: &Text,
-) -> Result<SurfaceTable, Refusal>
-    requires least { 1 ≤ dims }
-    requires most { dims ≤ 3 }
+fn two_species(alloc: Global) -> Result<NameSet, Refusal> {
+    let mut species = one_name(alloc, "A")?;
+    let second = new_name_in(&species, b"B")?;
+    species.add(alloc, second)?;
+    Ok(species)
+}
+
+// A wall of an axis at 0 or at 100.
+fn wall(axis: u8, upper: bool) -> Wall {
+    Wall {
+        axis,
+        plane: if upper { 200_000_000 } else { 0 },
+        upper,
+        letter: Letter::R,
+    }
+}
+
+// What the lines before a block give in both texts, beside these surfaces with so many panels.
+fn names_with(alloc: Global, surfaces: NameSet, panels: u32) -> Result<Names, Refusal>
+    ensures { IfOk result AreNames }
 {
-    if species.len() > 256 {
+    let walls = [
+        wall(0, false),
+        wall(0, true),
+        wall(1, false),
+        wall(1, true),
+        wall(2, false),
+        wall(2, true),
+    ];
+    let species = two_species(alloc)?;
+    if species.len() > 256 || surfaces.len() > 256 || panels > 4096 {
         return Err(Refusal::OutOfMemory);
     }
-    let mut table = SurfaceTable::new(alloc, species.len())?;
-    for k in 0..text.len() {
-        let line = text.line(k);
-        table.read(alloc, surface_statement(&line), dims, species, 0, &line)?;
-    }
-    Ok(table)
+    Ok(Names {
+        dims: 3,
+        walls: Items::from_slice(alloc, &walls)?,
+        species,
+        surfaces,
+        compartments: NameSet::new(alloc),
+        panels,
+    })
 }
 
-// The fault of lines of a block, if there is one.
-fn refused(alloc: Global, dims: u8, lines: &str) -> Result<Option<Refusal>, Fail> {
-    let species = two_species(alloc)?;
-    let text = text_of(alloc, lines)?;
-    Ok(read_block(alloc, dims.clamp(1, 3), &species, &text).err())
+// The names of one thing.
+fn one_name(alloc: Global, name: &str) -> Result<NameSet, Refusal> {
+    let mut names = NameSet::new(alloc);
+    let new = new_name_in(&names, name.as_bytes())?;
+    names.add(alloc, new)?;
+    Ok(names)
 }
 
-#[test]
-fn actions_are_judged(rt: HostRuntime) -> Result<(), Fail> {
-    for (dims, lines, kind) in ACTIONS {
-        let fault = refused(rt.alloc(), dims, lines)?;
-        assert_eq!(rt; fault, kind.map(Refusal::At), "{lines}");
-    }
-    Ok(())
-}
-
-#[test]
-fn panels_are_judged(rt: HostRuntime) -> Result<(), Fail> {
-    for (dims, lines, kind) in PANELS {
-        let fault = refused(rt.alloc(), dims, lines)?;
-        assert_eq!(rt; fault, kind.map(Refusal::At), "{lines}");
-    }
-    Ok(())
-}
-
-#[test]
-fn numbers_and_names_of_panels_are_judged(rt: HostRuntime) -> Result<(), Fail> {
-    for (dims, lines, kind) in NUMBERS {
-        let fault = refused(rt.alloc(), dims, lines)?;
-        assert_eq!(rt; fault, kind.map(Refusal::At), "{lines}");
-    }
-    Ok(())
-}
-
-#[test]
-fn jumps_are_judged(rt: HostRuntime) -> Result<(), Fail> {
-    for (dims, lines, kind) in JUMPS {
-        let fault = refused(rt.alloc(), dims, lines)?;
-        assert_eq!(rt; fault, kind.map(Refusal::At), "{lines}");
-    }
-    Ok(())
-}
-
-#[test]
-fn later_lines_replace_earlier_ones(rt: HostRuntime) -> Result<(), Fail> {
-    let species = two_species(rt.alloc())?;
-    let lines =
-        "action both all r\npanel rect +x 1 0 1 a\npanel rect -0 5 2 1\naction B front absorb\njump a front <-> rect1 back\njump rect1 back -> rect1 front";
-    let text = text_of(rt.alloc(), lines)?;
-    let table = read_block(rt.alloc(), 2, &species, &text)?;
-    let front = [Action::Reflect, Action::Absorb];
-    assert_eq!(rt; table.actions.front.as_slice(), front.as_slice());
-    let back = [Action::Reflect, Action::Reflect];
-    assert_eq!(rt; table.actions.back.as_slice(), back.as_slice());
-    let rects = [
-        Rect {
+// A panel across the first axis at 60 that faces greater coordinates, from y to 50 behind it.
+fn panel(y: i64, surface: u16) -> Panel {
+    let y = y.clamp(0, 1_000_000_000);
+    Panel {
+        rect: Rect {
             axis: 0,
-            low: [2_000_000, 0, 0],
-            high: [2_000_000, 2_000_000, 2],
+            low: [120_000_000, y, 0],
+            high: [120_000_000, y + 100_000_000, 200_000_000],
         },
-        Rect {
-            axis: 0,
-            low: [10_000_000, 4_000_000, 0],
-            high: [10_000_000, 6_000_000, 2],
-        },
-    ];
-    assert_eq!(rt; table.panels.rects.as_slice(), rects.as_slice());
-    assert_eq!(rt; table.panels.sides.as_slice(), [true, false].as_slice());
-    let front_to = [Some((1, Face::Back)), None];
-    assert_eq!(rt; table.panels.front_to.as_slice(), front_to.as_slice());
-    let back_to = [None, Some((1, Face::Front))];
-    assert_eq!(rt; table.panels.back_to.as_slice(), back_to.as_slice());
+        greater: true,
+        surface,
+        front_to: None,
+        back_to: None,
+    }
+}
+
+#[test]
+fn a_surface_is_read(rt: HostRuntime) -> Result<(), Fail> {
+    let text = text_of(rt.alloc(), SURFACES)?;
+    assert_eq!(rt; text.len(), 16);
+    let names = names_with(rt.alloc(), NameSet::new(rt.alloc()), 0)?;
+    let (first, next) = read_surface(rt.alloc(), &text, 9, &names)?;
+    assert_eq!(rt; next, 12);
+    assert_eq!(rt; first.name.as_str(), "s1");
+    let through = [Action::Transmit, Action::Transmit];
+    assert_eq!(rt; first.surface.front.as_slice(), through.as_slice());
+    assert_eq!(rt; first.surface.back.as_slice(), through.as_slice());
+    assert_eq!(rt; first.panels.as_slice(), [panel(0, 0)].as_slice());
+    let names = names_with(rt.alloc(), one_name(rt.alloc(), "s1")?, 1)?;
+    let (second, next) = read_surface(rt.alloc(), &text, 12, &names)?;
+    assert_eq!(rt; next, 16);
+    assert_eq!(rt; second.name.as_str(), "s2");
+    let reflecting = [Action::Reflect, Action::Reflect];
+    assert_eq!(rt; second.surface.front.as_slice(), reflecting.as_slice());
+    assert_eq!(rt; second.surface.back.as_slice(), reflecting.as_slice());
+    assert_eq!(rt;
+        second.panels.as_slice(),
+        [panel(100_000_000, 1)].as_slice()
+    );
+    Ok(())
+}
+
+#[test]
+fn a_compartment_is_read(rt: HostRuntime) -> Result<(), Fail> {
+    let text = text_of(rt.alloc(), COMPARTMENT)?;
+    assert_eq!(rt; text.len(), 15);
+    let names = names_with(rt.alloc(), one_name(rt.alloc(), "s")?, 1)?;
+    let (draft, next) = read_compartment(rt.alloc(), &text, 11, &names)?;
+    assert_eq!(rt; next, 15);
+    assert_eq!(rt; draft.name.as_str(), "c");
+    assert_eq!(rt; draft.compartment.surfaces.as_slice(), [0].as_slice());
+    let point = Place([300_000_001, 100_000_001, 100_000_001]);
+    assert_eq!(rt; draft.compartment.points.as_slice(), [point].as_slice());
     Ok(())
 }

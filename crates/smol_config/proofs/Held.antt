@@ -1,5 +1,5 @@
 -- The tables with what one line more says.
-use Rattle.std.proofs.Common.{◌≡◌, ◌<◌, ◌++◌, ◌∷◌, [], ◌&&◌, true, false, ℕ, zero, suc, ℤ, List, length, Some, Result, Ok, Err, OnOk, nat_le, nat_lt, slice_index_or, arith, refl, sym, ap, ◌∙◌, subst, if◌then◌else◌}
+use Rattle.std.proofs.Common.{◌≡◌, ◌<◌, ◌≢◌, ◌++◌, ◌∷◌, [], ◌&&◌, true, false, ℕ, zero, suc, ℤ, List, length, Some, Result, Ok, Err, OnOk, nat_le, nat_lt, slice_index_or, arith, refl, sym, ap, ◌∙◌, subst, if◌then◌else◌}
 use Rattle.std.specs.Result.{IsOkAnd}
 use Rattle.smol_text.specs.Reading.{Stated}
 use Rattle.smol_types.specs.declared.command.Command.{Command}
@@ -11,14 +11,12 @@ use Rattle.smol_line.specs.declared.axes.Bounds.{Bounds}
 use Rattle.smol_line.specs.declared.refusal.Refusal.{Refusal}
 use Rattle.smol_line.specs.declared.refusal.Refusal.TheVariants.{At, OutOfMemory}
 use Rattle.smol_line.specs.declared.species_word.Chosen.{Chosen}
+use Rattle.smol_line.specs.Checks.{passing, unless}
 use Rattle.smol_line.specs.LookingBack.{say}
 use Rattle.smol_line.specs.SpeciesWord.{is_chosen}
 use Rattle.smol_blocks.specs.declared.block_statement.BlockStatement.{BlockStatement}
-use Rattle.smol_blocks.specs.declared.blocks.Blocks.{Blocks}
-use Rattle.smol_blocks.specs.declared.blocks.OpenBlock.{OpenBlock}
-use Rattle.smol_blocks.specs.declared.blocks.OpenBlock.TheVariants as open_block
-use Rattle.smol_blocks.specs.Blocks.{Block, no_block, in_surface, in_compartment, BlockSaid, block_line_in, block_of, compartment_names, is_outside}
-use Rattle.smol_blocks.specs.BlocksTable.{Holds as HoldsBlocks, HoldsBlock, IsBlockKept, IsKept as AreBlocksKept, Reads as ReadsBlocks}
+use Rattle.smol_blocks.specs.declared.block_statement.BlockStatement.TheVariants.{StartSurface, InSurface, EndSurface, StartCompartment, Surface, Point, EndCompartment}
+use Rattle.smol_blocks.specs.Blocks.{block_line_in, bound_said, compartment_names, end_compartment_said, end_surface_in, in_surface_in, is_outside, point_said}
 use Rattle.smol_cmd.specs.Cmd.{cmd_in}
 use Rattle.smol_cmd.specs.Known.{known}
 use Rattle.smol_cmd.specs.OutputFiles.{output_files_in}
@@ -27,21 +25,21 @@ use Rattle.smol_reactions.specs.ReactionSaid.{ReactionSaid}
 use Rattle.smol_reactions.specs.Table.{IsKept, Reads as ReadsReactions}
 use Rattle.smol_config.specs.declared.motion.Motion.{Motion}
 use Rattle.smol_config.specs.declared.species_table.SpeciesTable.{SpeciesTable}
-use Rattle.smol_config.specs.declared.statement.Statement.{Statement}
-use Rattle.smol_config.specs.declared.statement.Statement.TheVariants as statement
+use Rattle.smol_blocks.specs.declared.statement.Statement.{Statement}
+use Rattle.smol_blocks.specs.declared.statement.Statement.TheVariants as statement
 use Rattle.smol_config.specs.declared.tables.Tables.{Tables}
 use Rattle.smol_config.specs.Said.{Said, passed_over, axes, names, moves, starts, stops, steps, limits, seeds, walls, places, of_reactions, of_blocks, writes, performs}
 use Rattle.smol_config.specs.Species.{further_words, species_in, species_of}
 use Rattle.smol_config.specs.Motion.{still}
 use Rattle.smol_config.specs.Reader.{placed_in, statement_in}
-use Rattle.smol_config.specs.Statement.{may_stand}
+use Rattle.smol_blocks.specs.Statement.{may_stand}
 use Rattle.smol_config.specs.Axes.{axes_of}
 use Rattle.smol_config.specs.Reactions.{reactions_said}
 use Rattle.smol_config.specs.Blocks.{blocks_said, stands_outside}
 use Rattle.smol_config.specs.Mol.{mol_in}
 use Rattle.smol_config.specs.CompartmentMol.{compartment_mol_in}
 use Rattle.smol_config.specs.Commands.{commands_of, known_before}
-use Rattle.smol_config.specs.Tables.{Holds, IsInPlace, IsOutside, Reads, with_bounds}
+use Rattle.smol_config.specs.Tables.{Holds, Reads, with_bounds}
 
 -- the walls of one axis more
 axes_with : (before : List Said) (axis : ℕ) (new : Bounds) → axis < 3 → with_bounds axis new (axes_of before) ≡ axes_of (walls axis new ∷ before)
@@ -254,7 +252,7 @@ motions_held tables before chosen motion species same moved h = record {
   reactions = h.reactions;
   kept = h.kept;
   blocks = h.blocks;
-  blocks_kept = subst (λ (names : List (List ℕ)). AreBlocksKept (length names) tables.blocks) (sym same) h.blocks_kept;
+  blocks_kept = h.blocks_kept;
   outputs = h.outputs;
   commands = h.commands;
 }
@@ -290,27 +288,6 @@ reactions_read one line tables reactions (Ok done) rule is reads kept = λ befor
 reactions_read one line tables reactions (Err (At kind)) rule is reads kept = λ before h. is before ∙ ap (say of_reactions) (reads before h (reactions_said before) h.reactions)
 reactions_read one line tables reactions (Err OutOfMemory) rule is reads kept = tt
 
--- where no block is open, the tables of blocks fit any number of species
-block_kept_outside : (species more : ℕ) (table : Blocks) (kept_block : OpenBlock) (block : Block) → is_outside block ≡ true → HoldsBlock kept_block block → IsBlockKept species table kept_block → IsBlockKept more table kept_block
-block_kept_outside species more table open_block.Nothing block outside held kept = tt
-block_kept_outside species more table (open_block.Surface line surface) no_block outside held kept = absurd held
-block_kept_outside species more table (open_block.Surface line surface) (in_surface opened lines) outside held kept = absurd cc
-block_kept_outside species more table (open_block.Surface line surface) (in_compartment opened lines) outside held kept = absurd held
-block_kept_outside species more table (open_block.Compartment line compartment) block outside held kept = kept
-
-kept_outside : (species more : ℕ) (table : Blocks) (said : List BlockSaid) → is_outside (block_of said) ≡ true → HoldsBlocks table said → AreBlocksKept species table → AreBlocksKept more table
-kept_outside species more table said outside held kept = record {
-  surface_count = kept.surface_count;
-  surfaces = kept.surfaces;
-  panel_count = kept.panel_count;
-  compartment_count = kept.compartment_count;
-  block = block_kept_outside species more table table.block (block_of said) outside held.block kept.block;
-}
-
--- the rule of a line of a block, by what the tables hold
-block_rule : (one : BlockStatement) (line : Stated) (tables : Tables) (before : List Said) → Holds tables before → block_line_in one (axes_of before) (species_of before) (blocks_said before) line ≡ block_line_in one tables.axes tables.species.names (blocks_said before) line
-block_rule one line tables before h = λ j. block_line_in one (sym h.axes j) (sym h.species j) (blocks_said before) line
-
 -- the names that a line without a fault gives
 more_of : (rule : Result (List (List ℕ)) Kind) (new old : List (List ℕ)) → IsOkAnd rule (λ more. new ≡ old ++ more) → (more : List (List ℕ)) × (rule ≡ Ok more) × (new ≡ old ++ more)
 more_of (Ok more) new old is = (more, refl, is)
@@ -318,14 +295,13 @@ more_of (Err kind) new old is = absurd is
 
 -- how the reading of a `species` line ends
 pub species_reads : {T : Type 0} (line : Stated) (tables : Tables) (species : SpeciesTable) (result : Result T Refusal)
-    → IsOutside tables
     → OnOk result (species.names ≡ tables.species.names ++ further_words line)
     → OnOk result ((number : ℕ) → slice_index_or species.motions.items number still ≡ slice_index_or tables.species.motions.items number still)
     → OnOk result ((before : List Said) → tables.species.names ≡ species_of before → species_in before line ≡ Ok (further_words line))
     → ((kind : Kind) (before : List Said) → result ≡ Err (At kind) → tables.species.names ≡ species_of before → species_in before line ≡ Err kind)
     → Reads (statement_in statement.Species) line tables (record tables { species = species }) result
 unfolding statement_in
-species_reads line tables species (Ok done) outside added same accepted refused = λ before h. (
+species_reads line tables species (Ok done) added same accepted refused = λ before h. (
   names (further_words line),
   ap (say names) (accepted before h.species),
   record {
@@ -341,45 +317,13 @@ species_reads line tables species (Ok done) outside added same accepted refused 
     reactions = h.reactions;
     kept = h.kept;
     blocks = h.blocks;
-    blocks_kept = kept_outside (length tables.species.names) (length species.names) tables.blocks (blocks_said before) (outside before h) h.blocks h.blocks_kept;
+    blocks_kept = h.blocks_kept;
     outputs = h.outputs;
     commands = h.commands;
   },
 )
-species_reads line tables species (Err (At kind)) outside added same accepted refused = λ before h. ap (say names) (refused kind before refl h.species)
-species_reads line tables species (Err OutOfMemory) outside added same accepted refused = tt
-
--- how the reading of a line of a block ends
-pub blocks_read : {T : Type 0} (one : BlockStatement) (line : Stated) (tables : Tables) (blocks : Blocks) (result : Result T Refusal)
-    → OnOk result (AreBlocksKept (length tables.species.names) blocks)
-    → ReadsBlocks (λ said. block_line_in one tables.axes tables.species.names said line) tables.blocks blocks result
-    → Reads (statement_in (statement.Block one)) line tables (record tables { blocks = blocks }) result
-unfolding statement_in
-blocks_read one line tables blocks (Ok done) kept reads = λ before h.
-    let read = reads (blocks_said before) h.blocks in (
-      of_blocks read.0,
-      ap (say of_blocks) (block_rule one line tables before h ∙ read.1),
-      record {
-        axes = h.axes;
-        species = h.species;
-        motions = h.motions;
-        start = h.start;
-        stop = h.stop;
-        step = h.step;
-        max_mol = h.max_mol;
-        seed = h.seed;
-        placings = h.placings;
-        reactions = h.reactions;
-        kept = h.kept;
-        blocks = read.2;
-        blocks_kept = kept;
-        outputs = h.outputs;
-        commands = h.commands;
-      },
-    )
-blocks_read one line tables blocks (Err (At kind)) kept reads = λ before h.
-    ap (say of_blocks) (block_rule one line tables before h ∙ reads (blocks_said before) h.blocks)
-blocks_read one line tables blocks (Err OutOfMemory) kept reads = tt
+species_reads line tables species (Err (At kind)) added same accepted refused = λ before h. ap (say names) (refused kind before refl h.species)
+species_reads line tables species (Err OutOfMemory) added same accepted refused = tt
 
 -- how the reading of an `output_files` line ends
 pub outputs_read : {T : Type 0} (line : Stated) (tables : Tables) (outputs : List (List ℕ)) (result : Result T Refusal)
@@ -436,14 +380,30 @@ cmd_refused line tables count refusal (Err (At kind)) is counted refused = λ be
     ap (say performs) (cmd_rule line tables before count counted h ∙ refused kind same)
 cmd_refused line tables count refusal (Err OutOfMemory) is counted refused = tt
 
--- a statement that stands where it may is read, and one that doesn't is refused
-pub placed_reads : {T : Type 0} (one : Statement) (line : Stated) (old new : Tables) (result : Result T Refusal) → IsInPlace one old → Reads (statement_in one) line old new result → Reads (placed_in one) line old new result
-placed_reads one line old new (Ok done) place reads = λ before h.
-    let read = reads before h in
-    let stands = place before h in
-    (read.0, rw stands read.1, read.2)
-placed_reads one line old new (Err (At kind)) place reads = λ before h. let stands = place before h in rw stands (reads before h)
-placed_reads one line old new (Err OutOfMemory) place reads = tt
+-- where no block is open any statement may stand
+stands : (one : Statement) → may_stand one true ≡ true
+stands statement.PassedOver = refl
+stands statement.NotInProfile = refl
+stands statement.Unknown = refl
+stands (statement.Block one) = refl
+stands other = refl
 
+pub placed : (one : Statement) (line : Stated) (tables : Tables) (before : List Said) → Holds tables before → placed_in one before line ≡ statement_in one before line
+placed one line tables before h =
+    ap (λ b. passing (unless (may_stand one (is_outside b)) BadOrder ∷ []) (statement_in one before line)) h.blocks.closed
+    ∙ ap (λ may. passing (unless may BadOrder ∷ []) (statement_in one before line)) (stands one)
+
+-- where no block is open, a line of a block that opens none is out of place
+pub unopened : (one : BlockStatement) (line : Stated) (tables : Tables) (before : List Said) → one ≢ StartSurface → one ≢ StartCompartment → Holds tables before → statement_in (statement.Block one) before line ≡ Err BadOrder
+unfolding statement_in block_line_in
+unopened StartSurface line tables before surface compartment h = absurd (surface refl)
+unopened StartCompartment line tables before surface compartment h = absurd (compartment refl)
+unopened (InSurface one) line tables before surface compartment h = ap (λ b. say of_blocks (in_surface_in one (axes_of before) (species_of before) (blocks_said before) line b)) h.blocks.closed
+unopened EndSurface line tables before surface compartment h = ap (λ b. say of_blocks (end_surface_in (axes_of before) (species_of before) (blocks_said before) line b)) h.blocks.closed
+unopened Surface line tables before surface compartment h = ap (λ b. say of_blocks (bound_said (blocks_said before) line b)) h.blocks.closed
+unopened Point line tables before surface compartment h = ap (λ b. say of_blocks (point_said (axes_of before) line b)) h.blocks.closed
+unopened EndCompartment line tables before surface compartment h = ap (λ b. say of_blocks (end_compartment_said line b)) h.blocks.closed
+
+-- a statement in a block that may not stand in one
 pub misplaced : (one : Statement) (before : List Said) (line : Stated) → may_stand one (stands_outside before) ≡ false → placed_in one before line ≡ Err BadOrder
 misplaced one before line stands = rw stands refl

@@ -1,4 +1,3 @@
-pub mod StatementLemmas
 pub mod Held
 pub mod SpeciesNames
 pub mod Drafts
@@ -6,3 +5,7 @@ pub mod Kept
 pub mod Rules
 pub mod WholeSound
 pub mod Reading
+pub mod BlockLines
+pub mod BlockTables
+pub mod BlockWise
+pub mod BlockRead

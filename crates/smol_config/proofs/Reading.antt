@@ -16,7 +16,7 @@ use Rattle.smol_config.specs.Reader.{config_from, line_in, read_from}
 use Rattle.smol_config.specs.declared.tables.Tables.{Tables}
 use Rattle.smol_config.specs.SoFar.{IsSoFar}
 use Rattle.smol_config.specs.Tables.{AreReady, Holds}
-use Rattle.smol_config.specs.Told.{told_at}
+use Rattle.smol_blocks.specs.Told.{told_at}
 use Rattle.smol_config.specs.Whole.{behind_blocks, closed_in, whole_in}
 use Rattle.smol_config.specs.Blocks.{blocks_said}
 
@@ -25,13 +25,12 @@ pub read_from-next : (before : List Said) (line : Stated) (lines : List Stated) 
 read_from-next before line lines said fine = ap (λ (found : Result Said Kind). with_value (at_line line.number found) (λ said. read_from (said ∷ before) lines)) fine
 
 -- a line with a fault ends it
-read_from-refused : (before : List Said) (line : Stated) (lines : List Stated) (kind : Kind) → line_in before line ≡ Err kind → read_from before (line ∷ lines) ≡ Err (fault_at line.number kind)
+pub read_from-refused : (before : List Said) (line : Stated) (lines : List Stated) (kind : Kind) → line_in before line ≡ Err kind → read_from before (line ∷ lines) ≡ Err (fault_at line.number kind)
 read_from-refused before line lines kind failed = ap (λ (found : Result Said Kind). with_value (at_line line.number found) (λ said. read_from (said ∷ before) lines)) failed
 
-pub refused_line : (all rest : List Stated) (before : List Said) (line : Stated) (more : List Stated) (refusal : Refusal) → read_from [] all ≡ read_from before rest → rest ≡ line ∷ more → ((kind : Kind) → refusal ≡ At kind → line_in before line ≡ Err kind) → TellsFault (told_at line.number refusal) (config_from all)
-refused_line all rest before line more (At kind) same next failed =
-    ap (λ (said : Result (List Said) Fault). with_value said whole_in) (same ∙ ap (read_from before) next ∙ read_from-refused before line more kind (failed kind refl))
-refused_line all rest before line more OutOfMemory same next failed = tt
+-- a fault that is told of reading on is one of reading all
+pub told_behind : (fault : ConfigFault) (all rest : List Stated) (before : List Said) → read_from [] all ≡ read_from before rest → TellsFault fault (with_value (read_from before rest) whole_in) → TellsFault fault (config_from all)
+told_behind fault all rest before same tells = subst (λ (said : Result (List Said) Fault). TellsFault fault (with_value said whole_in)) (sym same) tells
 
 -- behind the last line the whole is tested
 pub config_from-whole : (all rest : List Stated) (before : List Said) → read_from [] all ≡ read_from before rest → rest ≡ [] → config_from all ≡ whole_in before

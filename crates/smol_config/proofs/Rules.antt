@@ -38,10 +38,10 @@ use Rattle.smol_cmd.proofs.OutputNames.{files_are_few}
 use Rattle.smol_cmd.proofs.Sound.{commands_are_few, commands_are_sound}
 use Rattle.smol_reactions.specs.Statements.{binding_radius_said, product_placement_said, reaction_probability_said, reaction_said}
 use Rattle.smol_reactions.proofs.SoundSaid.{binding_radius_keeps, product_placement_keeps, reaction_keeps, reaction_probability_keeps}
-use Rattle.smol_config.specs.declared.statement.Statement.{Statement}
-use Rattle.smol_config.specs.declared.statement.Statement.TheVariants as statement
+use Rattle.smol_blocks.specs.declared.statement.Statement.{Statement}
+use Rattle.smol_blocks.specs.declared.statement.Statement.TheVariants as statement
 use Rattle.smol_config.specs.Said.{Said, passed_over, axes, names, moves, starts, stops, steps, limits, seeds, walls, places, of_reactions, of_blocks, writes, performs}
-use Rattle.smol_config.specs.Statement.{may_stand, statement_of}
+use Rattle.smol_blocks.specs.Statement.{may_stand, statement_of}
 use Rattle.smol_config.specs.Axes.{axes_of, dims_of}
 use Rattle.smol_config.specs.Dim.{dim_in}
 use Rattle.smol_config.specs.Species.{species_of, further_words, species_in, species_fault}

@@ -1,4 +1,3 @@
-pub mod Statement
 pub mod Said
 pub mod Axes
 pub mod Dim

@@ -1,20 +1,22 @@
 -- What the reader keeps of the lines read so far. This is no part of what a text means.
-use Rattle.std.specs.Prelude.{◌≡◌, ◌≤◌, ◌+◌, ◌==◌, ℕ, ℤ, unsigned_abs, true, List, [], ◌∷◌, length, Some, Result, slice_index_or, if◌then◌else◌}
+use Rattle.std.specs.Prelude.{◌≡◌, ◌≤◌, ◌+◌, ◌==◌, ℕ, ℤ, unsigned_abs, List, [], ◌∷◌, length, drop, Some, Result, Ok, Err, slice_index_or, if◌then◌else◌}
 use Rattle.smol_text.specs.Reading.{Stated}
 use Rattle.smol_types.specs.declared.draft.Draft.{Draft}
+use Rattle.smol_types.specs.declared.fault.ConfigFault.{ConfigFault}
 use Rattle.smol_types.specs.declared.fault.Kind.{Kind}
 use Rattle.smol_types.specs.Limits.{most_outputs, most_species}
 use Rattle.smol_types.specs.declared.species.Species.{Species as TheSpecies}
 use Rattle.smol_line.specs.declared.axes.Axes.{Axes}
 use Rattle.smol_line.specs.declared.axes.Bounds.{Bounds}
 use Rattle.smol_line.specs.Axes.{AreAxes}
+use Rattle.smol_line.specs.Checks.{with_value}
+use Rattle.smol_line.specs.Fault.{TellsFault}
 use Rattle.smol_line.specs.Length.{most_micros}
 use Rattle.smol_line.specs.LookingBack.{Reads as ReadsLine}
 use Rattle.smol_line.specs.declared.refusal.Refusal.{Refusal}
 use Rattle.smol_blocks.specs.BlocksTable.{Holds as HoldsBlocks, IsKept as AreBlocksKept}
 use Rattle.smol_reactions.specs.Table.{Holds as HoldsReactions, IsKept}
 use Rattle.smol_config.specs.declared.motion.Motion.{Motion}
-use Rattle.smol_config.specs.declared.statement.Statement.{Statement}
 use Rattle.smol_config.specs.declared.tables.Tables.{Tables}
 use Rattle.smol_config.specs.declared.whole.Needed.{Needed}
 use Rattle.smol_config.specs.declared.whole.Parts.{Parts}
@@ -27,10 +29,11 @@ use Rattle.smol_config.specs.MaxMol.{limit_of, max_mol_of}
 use Rattle.smol_config.specs.RandomSeed.{random_seed_of}
 use Rattle.smol_config.specs.Mol.{placings_of}
 use Rattle.smol_config.specs.Reactions.{reactions_said}
-use Rattle.smol_config.specs.Blocks.{blocks_said, stands_outside}
+use Rattle.smol_config.specs.Blocks.{blocks_said}
 use Rattle.smol_config.specs.Commands.{commands_of, outputs_of}
-use Rattle.smol_config.specs.Statement.{may_stand}
+use Rattle.smol_config.specs.Reader.{read_from}
 use Rattle.smol_config.specs.SoFar.{IsSoFar}
+use Rattle.smol_config.specs.Whole.{whole_in}
 
 -- each table is its look-up over what the lines so far say
 pub record Holds (tables : Tables) (before : List Said) : Type 0 where
@@ -46,7 +49,7 @@ pub record Holds (tables : Tables) (before : List Said) : Type 0 where
   pub reactions : HoldsReactions tables.reactions (reactions_said before)
   pub kept : IsKept tables.reactions
   pub blocks : HoldsBlocks tables.blocks (blocks_said before)
-  pub blocks_kept : AreBlocksKept (length tables.species.names) tables.blocks
+  pub blocks_kept : AreBlocksKept tables.blocks
   pub outputs : tables.outputs ≡ outputs_of before
   pub commands : tables.commands ≡ commands_of before
 
@@ -59,16 +62,19 @@ pub record AreReady (tables : Tables) : Type 0 where
   pub axes : AreAxes tables.axes
   pub species : length tables.species.names ≤ most_species
   pub reactions : IsKept tables.reactions
-  pub blocks : AreBlocksKept (length tables.species.names) tables.blocks
+  pub blocks : AreBlocksKept tables.blocks
   pub outputs : length tables.outputs ≤ most_outputs
 
--- no block is open, by what the tables hold
-abbrev pub IsOutside : Tables → Type 0
-IsOutside tables = (before : List Said) → Holds tables before → stands_outside before ≡ true
+-- how the reading on from the line of an index ends, behind these lines: it goes on from the index that is answered, and the
+-- tables hold what was read too; or the fault of the lines is told, or memory ran out
+abbrev pub ReadsBehind : List Stated → ℕ → List Said → Tables → Result ℕ ConfigFault → Type 0
+ReadsBehind lines at before new (Ok next) =
+    (after : List Said) × Holds new after × IsSoFar after × (read_from before (drop at lines) ≡ read_from after (drop next lines))
+ReadsBehind lines at before new (Err fault) = TellsFault fault (with_value (read_from before (drop at lines)) whole_in)
 
--- a statement may stand where it does, by what the tables hold
-abbrev pub IsInPlace : Statement → Tables → Type 0
-IsInPlace statement tables = (before : List Said) → Holds tables before → may_stand statement (stands_outside before) ≡ true
+-- the same behind all lines without a fault that the tables hold
+abbrev pub ReadsOn : List Stated → ℕ → Tables → Tables → Result ℕ ConfigFault → Type 0
+ReadsOn lines at old new result = (before : List Said) → Holds old before → IsSoFar before → ReadsBehind lines at before new result
 
 -- the tables hold what lines without a fault say
 abbrev pub IsReached : Tables → Type 0

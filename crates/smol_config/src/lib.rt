@@ -12,7 +12,6 @@ mod random_seed;
 mod reader;
 mod species;
 mod species_table;
-mod statement;
 mod tables;
 #[cfg(test)]
 mod tests;

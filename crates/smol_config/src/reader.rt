@@ -6,11 +6,11 @@ ghost use Rattle.smol_config.specs.Reader.{config_from, config_of};
 ghost use Rattle.smol_config.specs.Said.{Said};
 ghost use Rattle.smol_config.specs.Tables.{Holds, IsReached};
 ghost use Rattle.smol_config.specs.Whole.{whole_in};
-ghost use Rattle.smol_config.specs.Told.{told_at, lines_told};
+ghost use Rattle.smol_config.specs.Told.{lines_told};
 
 use crate::tables::Tables;
 use crate::whole::finish;
-use smol_line::Refusal;
+use smol_blocks::told_at;
 use smol_text::{Text, TextFault, split_lines};
 use smol_types::{Config, ConfigFault, Kind};
 use std::alloc::Global;
@@ -20,16 +20,6 @@ const MOST_BYTES: usize = 4_194_304;
 
 /// The line at which there are too many.
 const LINE_TOO_MANY: u32 = 65_537;
-
-// A fault of a line, or of the whole at line 0.
-fn told_at(line: u32, refusal: Refusal) -> ConfigFault
-    ensures { result ≡ told_at line refusal }
-{
-    match refusal {
-        Refusal::At(kind) => ConfigFault::At { line, kind },
-        Refusal::OutOfMemory => ConfigFault::OutOfMemory,
-    }
-}
 
 // A fault of a text's lines as a fault of a configuration.
 fn lines_told(fault: TextFault) -> ConfigFault
@@ -58,12 +48,9 @@ fn finish_whole(alloc: Global, tables: Tables) -> Result<Config, ConfigFault>
     ensures accepted { IfOk result (λ config. (before : List Said) → Holds tables before → whole_in before ≡ Ok config) }
     ensures refused { IfErr result (λ fault. (before : List Said) → Holds tables before → TellsFault fault (whole_in before)) }
 {
-    match tables.blocks.opening_line() {
-        Some(line) => Err(told_at(line, Refusal::At(Kind::OpenBlock))),
-        None => match finish(alloc, tables) {
-            Ok(config) => Ok(config),
-            Err(refusal) => Err(told_at(0, refusal)),
-        },
+    match finish(alloc, tables) {
+        Ok(config) => Ok(config),
+        Err(refusal) => Err(told_at(0, refusal)),
     }
 }
 
@@ -73,12 +60,9 @@ fn read_lines(alloc: Global, text: &Text) -> Result<Config, ConfigFault>
     ensures refused { IfErr result (λ fault. TellsFault fault (config_from (stated_lines text.now))) }
 {
     let mut tables = Tables::new(alloc);
-    for k in 0..text.len() {
-        let line = text.line(k);
-        match tables.read(alloc, &line) {
-            Ok(()) => {}
-            Err(refusal) => return Err(told_at(line.number(), refusal)),
-        }
+    let mut at = 0;
+    while at < text.len() {
+        at = tables.read(alloc, text, at)?;
     }
     finish_whole(alloc, tables)
 }

@@ -1,17 +1,21 @@
 //! What the lines read so far give.
-ghost use Rattle.std.specs.Prelude.{◌≤◌, [], length};
+ghost use Rattle.std.specs.Prelude.{◌≡◌, ◌≢◌, ◌+◌, ◌<◌, ◌≤◌, ◌∷◌, [], Some, length, drop, slice_get, IfOk};
+ghost use Rattle.smol_text.specs.Spans.{stated_lines};
 ghost use Rattle.smol_types.specs.Limits.{most_species};
-ghost use Rattle.smol_config.specs.declared.statement.Statement.TheVariants as statement;
+ghost use Rattle.smol_line.specs.Words.{word_at};
+ghost use Rattle.smol_blocks.specs.declared.block_statement.BlockStatement.{BlockStatement as TheBlockStatement};
+ghost use Rattle.smol_blocks.specs.declared.statement.Statement.TheVariants as statement;
+ghost use Rattle.smol_blocks.specs.declared.statement.Statement.TheVariants.{Block};
+ghost use Rattle.smol_blocks.specs.Statement.{statement_of};
 
 use crate::species_table::SpeciesTable;
-use crate::statement::Statement;
 use crate::{boundaries, compartment_mol, dim, max_mol, mol, motion, random_seed, species, times};
-use smol_blocks::{BlockStatement, Blocks};
+use smol_blocks::{BlockStatement, Blocks, Statement, told_at};
 use smol_cmd::{read_cmd, read_output_files};
-use smol_line::{Axes, NameSet, Refusal, unless, word_at};
+use smol_line::{Axes, NameSet, Refusal, word_at};
 use smol_reactions::Reactions;
-use smol_text::StatedLine;
-use smol_types::{Command, Items, Kind, Placing};
+use smol_text::{StatedLine, Text};
+use smol_types::{Command, ConfigFault, Items, Kind, Placing};
 use std::alloc::Global;
 
 /// What the lines read so far give, a quantity each.
@@ -32,8 +36,8 @@ pub struct Tables {
 }
 
 impl Tables {
-    ghost use Rattle.smol_config.specs.Reader.{line_in, statement_in};
-    ghost use Rattle.smol_config.specs.Tables.{AreReady, Holds, IsInPlace, IsOutside, Reads};
+    ghost use Rattle.smol_config.specs.Reader.{statement_in};
+    ghost use Rattle.smol_config.specs.Tables.{AreReady, Holds, Reads, ReadsOn};
     ghost use Rattle.smol_reactions.specs.Table.{IsKept};
 
     /// Nothing given.
@@ -69,7 +73,6 @@ impl Tables {
     }
 
     fn read_species(&mut self, alloc: Global, line: &StatedLine<'_>) -> Result<(), Refusal>
-        requires { IsOutside self.old }
         ensures { Reads (statement_in statement.Species) line.now self.old self.new result }
     {
         species::read(alloc, &mut self.species, line)
@@ -200,18 +203,38 @@ impl Tables {
         Ok(())
     }
 
+    // Reads a line of a block where none is open, or the whole block that it opens.
     fn read_block(
         &mut self,
         alloc: Global,
         one: BlockStatement,
+        text: &Text,
+        at: usize,
         line: &StatedLine<'_>,
-    ) -> Result<(), Refusal>
-        requires { AreReady self.old }
-        ensures { Reads (statement_in (statement.Block one)) line.now self.old self.new result }
+    ) -> Result<usize, ConfigFault>
+        requires within { at < length (stated_lines text.now) }
+        requires line { slice_get (stated_lines text.now) at ≡ Some line.now }
+        requires is_next { drop at (stated_lines text.now) ≡ line.now ∷ drop (at + 1) (stated_lines text.now) }
+        requires statement { statement.Block one ≡ statement_of (word_at line.now 0) }
+        requires ready { AreReady self.old }
+        ensures reads { ReadsOn (stated_lines text.now) at self.old self.new result }
+        ensures next { IfOk result (λ next. (at < next) × (next ≤ length (stated_lines text.now))) }
     {
-        let axes = self.axes;
-        let species = &self.species;
-        self.blocks.read(alloc, one, &axes, &species.names, line)
+        match one {
+            BlockStatement::StartSurface => {
+                let axes = self.axes;
+                let species = &self.species;
+                self.blocks
+                    .read_surface(alloc, &axes, &species.names, text, at)
+            }
+            BlockStatement::StartCompartment => {
+                self.blocks.read_compartment(alloc, &self.axes, text, at)
+            }
+            _ => Err(ConfigFault::At {
+                line: line.number(),
+                kind: Kind::BadOrder,
+            }),
+        }
     }
 
     fn read_output_files(&mut self, alloc: Global, line: &StatedLine<'_>) -> Result<(), Refusal>
@@ -240,7 +263,7 @@ impl Tables {
         Ok(())
     }
 
-    // Reads a line that makes this statement.
+    // Reads a line that makes this statement, which is of no block.
     fn read_statement(
         &mut self,
         alloc: Global,
@@ -248,7 +271,7 @@ impl Tables {
         line: &StatedLine<'_>,
     ) -> Result<(), Refusal>
         requires ready { AreReady self.old }
-        requires place { IsInPlace statement self.old }
+        requires apart { (one : TheBlockStatement) → statement ≢ Block one }
         ensures { Reads (statement_in statement) line.now self.old self.new result }
     {
         match statement {
@@ -271,21 +294,29 @@ impl Tables {
             Statement::BindingRadius => self.read_binding_radius(line),
             Statement::ReactionProbability => self.read_reaction_probability(line),
             Statement::ProductPlacement => self.read_product_placement(alloc, line),
-            Statement::Block(one) => self.read_block(alloc, one, line),
+            Statement::Block(_) => Err(Refusal::At(Kind::BadOrder)),
             Statement::OutputFiles => self.read_output_files(alloc, line),
             Statement::Cmd => self.read_cmd(alloc, line),
         }
     }
 
-    /// Reads a line behind those read so far.
-    #[tactic(auto, unfolding(crate::specs::Reader::line_in))]
-    pub fn read(&mut self, alloc: Global, line: &StatedLine<'_>) -> Result<(), Refusal>
-        requires { AreReady self.old }
-        ensures { Reads line_in line.now self.old self.new result }
+    /// Reads on from the line at an index behind those read so far: the block that it opens, or that line alone. Answers the
+    /// index from which the reading goes on.
+    pub fn read(&mut self, alloc: Global, text: &Text, at: usize) -> Result<usize, ConfigFault>
+        requires within { at < length (stated_lines text.now) }
+        requires ready { AreReady self.old }
+        ensures reads { ReadsOn (stated_lines text.now) at self.old self.new result }
+        ensures next { IfOk result (λ next. (at < next) × (next ≤ length (stated_lines text.now))) }
     {
-        let statement = Statement::of(word_at(line, 0));
-        let outside = self.blocks.is_outside();
-        unless(statement.may_stand(outside), Kind::BadOrder)?;
-        self.read_statement(alloc, statement, line)
+        let end = text.len();
+        prove!(at < end);
+        let line = text.line(at);
+        match Statement::of(word_at(&line, 0)) {
+            Statement::Block(one) => self.read_block(alloc, one, text, at, &line),
+            statement => match self.read_statement(alloc, statement, &line) {
+                Ok(()) => Ok(at + 1),
+                Err(refusal) => Err(told_at(line.number(), refusal)),
+            },
+        }
     }
 }

@@ -1,4 +1,4 @@
-//! What lines on reactions say together, and the fault of each line that is refused.
+//! What lines on reactions say together. `.ci/reactions.cases` holds the fault of each line that is refused.
 ghost use Rattle.std.specs.Prelude.{◌+◌, ◌≤◌, length, OnOk, IfOk};
 ghost use Rattle.smol_reactions.specs.Table.{IsKept};
 
@@ -10,135 +10,6 @@ use smol_text::{StatedLine, Text, split_lines};
 use smol_types::{Kind, Placement};
 use std::alloc::{AllocError, Global};
 use std::test::Fail;
-
-// Lines, and the fault of the last one, with three axes in use and the species A, B, C, product_1 and product_0.
-const REFUSED: [(&str, Kind); 62] = [
-    // The number of words, and the name.
-    ("reaction", Kind::WrongWordCount),
-    ("reaction r A ->", Kind::WrongWordCount),
-    ("reaction 1 x y z", Kind::NotInProfile),
-    ("reaction all A -> B", Kind::NotInProfile),
-    ("reaction r A -> B\nreaction r x y z", Kind::RepeatedName),
-    // No arrow.
-    ("reaction r A B C", Kind::BadReaction),
-    ("reaction r 0 + A 0", Kind::BadReaction),
-    // LEFT.
-    ("reaction r 0 -> -> ->", Kind::NotInProfile),
-    ("reaction r 0 -> B C", Kind::NotInProfile),
-    ("reaction r -> A + B", Kind::BadReaction),
-    ("reaction r A B -> C", Kind::BadReaction),
-    ("reaction r A + -> C", Kind::BadReaction),
-    ("reaction r + A -> C", Kind::BadReaction),
-    ("reaction r 0 + A -> B", Kind::BadReaction),
-    ("reaction r A + 0 -> B", Kind::BadReaction),
-    ("reaction r A + B + C -> 0", Kind::BadReaction),
-    ("reaction r A + B C -> 0", Kind::BadReaction),
-    // RIGHT.
-    ("reaction r A + B ->", Kind::BadReaction),
-    ("reaction r A -> + B", Kind::BadReaction),
-    ("reaction r A -> B +", Kind::BadReaction),
-    ("reaction r A -> B + 0", Kind::BadReaction),
-    ("reaction r A -> 0 + B", Kind::BadReaction),
-    ("reaction r A -> B C A", Kind::BadReaction),
-    ("reaction r A -> B ->", Kind::BadReaction),
-    ("reaction r A -> B -> C", Kind::BadReaction),
-    ("reaction r A -> 0 -> 0", Kind::BadReaction),
-    // A rate comes before the species words.
-    ("reaction r Z -> B 0.5", Kind::NotInProfile),
-    ("reaction r A -> 0 0", Kind::NotInProfile),
-    ("reaction r A -> B 0", Kind::NotInProfile),
-    ("reaction r A -> B + C all", Kind::NotInProfile),
-    // Species words.
-    ("reaction r A -> all", Kind::UnknownName),
-    ("reaction r Z + A(x) -> B", Kind::UnknownName),
-    ("reaction r A(x) + Z -> B", Kind::NotInProfile),
-    ("reaction r A -> B + Z", Kind::UnknownName),
-    (
-        "reaction r A -> A + A + A + A + A + A + A + A + A + A + A + A + A + A + A + A + A",
-        Kind::TooMany,
-    ),
-    // `binding_radius`.
-    ("binding_radius r", Kind::WrongWordCount),
-    ("binding_radius r 1", Kind::UnknownName),
-    ("reaction r A -> B\nbinding_radius r abc", Kind::BadReaction),
-    (
-        "reaction r A + B -> 0\nbinding_radius r abc",
-        Kind::NotNumber,
-    ),
-    (
-        "reaction r A + B -> 0\nbinding_radius r 0.0000001",
-        Kind::TooFine,
-    ),
-    (
-        "reaction r A + B -> 0\nbinding_radius r 1000.000001",
-        Kind::OutOfRange,
-    ),
-    (
-        "reaction r A + B -> 0\nbinding_radius r -1",
-        Kind::OutOfRange,
-    ),
-    // `reaction_probability`.
-    ("reaction_probability r 1 1", Kind::WrongWordCount),
-    ("reaction_probability r 2", Kind::UnknownName),
-    (
-        "reaction r A -> B\nreaction_probability r 1.000000001",
-        Kind::OutOfRange,
-    ),
-    (
-        "reaction r A -> B\nreaction_probability r 1e-10",
-        Kind::TooFine,
-    ),
-    // `product_placement`.
-    ("product_placement r", Kind::WrongWordCount),
-    ("product_placement r irrev", Kind::NotInProfile),
-    ("product_placement r offset A", Kind::WrongWordCount),
-    ("product_placement r unbindrad", Kind::WrongWordCount),
-    ("product_placement r unbindrad x", Kind::UnknownName),
-    (
-        "reaction r A -> B\nproduct_placement r unbindrad x",
-        Kind::BadReaction,
-    ),
-    (
-        "reaction r A -> B + C\nproduct_placement r offset B 1 1 1\nproduct_placement r unbindrad x",
-        Kind::BadReaction,
-    ),
-    (
-        "reaction r A -> B + C\nproduct_placement r unbindrad 0\nproduct_placement r offset Z 1 1 1",
-        Kind::BadReaction,
-    ),
-    (
-        "reaction r A -> B + C\nproduct_placement r unbindrad 1000.000001",
-        Kind::OutOfRange,
-    ),
-    (
-        "reaction r A -> B\nproduct_placement r offset A 1 1 1",
-        Kind::UnknownName,
-    ),
-    (
-        "reaction r A -> B\nproduct_placement r offset product_2 x 1 1",
-        Kind::UnknownName,
-    ),
-    (
-        "reaction r A -> product_1\nproduct_placement r offset product_0 1 1 1",
-        Kind::UnknownName,
-    ),
-    (
-        "reaction r A -> B\nproduct_placement r offset product_99999999999999999999 1 1 1",
-        Kind::UnknownName,
-    ),
-    (
-        "reaction r A -> B\nproduct_placement r offset all 1 1 1",
-        Kind::UnknownName,
-    ),
-    (
-        "reaction r A -> B\nproduct_placement r offset B x 1 1001",
-        Kind::NotNumber,
-    ),
-    (
-        "reaction r A -> B\nproduct_placement r offset B 1 1001 x",
-        Kind::OutOfRange,
-    ),
-];
 
 // The species of the tests.
 const SPECIES: [&str; 5] = ["A", "B", "C", "product_1", "product_0"];
@@ -214,14 +85,6 @@ fn read(alloc: Global, lines: &str) -> Result<Reactions, Refusal>
     let mut table = Reactions::new(alloc);
     read_lines(alloc, &mut table, &species, &text)?;
     Ok(table)
-}
-
-#[test]
-fn lines_are_refused(rt: HostRuntime) {
-    for (lines, kind) in REFUSED {
-        let fault = read(rt.alloc(), lines).err();
-        assert_eq!(rt; fault, Some(Refusal::At(kind)), "{lines}");
-    }
 }
 
 // Two reactions, and lines of which the last ones count.

@@ -1,46 +1,40 @@
-use Rattle.std.proofs.Common.{◌≡◌, ◌+◌, ◌≤◌, ◌∷◌, length, drop, ap, ◌∙◌, arith}
+use Rattle.std.proofs.Common.{◌≡◌, ◌≤◌, length, drop, refl, ap, ◌∙◌, arith}
 use Rattle.std.proofs.lemmas.List.{drop_all}
+use Rattle.std.proofs.lemmas.Result.{err_from_is_err_and}
 use Rattle.smol_text.specs.Spans.{stated_lines}
 use Rattle.smol_config.specs.Reader.{config_from, read_from}
 use Rattle.smol_config.specs.Whole.{whole_in}
-use Rattle.smol_config.proofs.Reading.{read_from-next, refused_line, config_from-whole, ready, whole_accepted, whole_refused}
-use Rattle.smol_config.proofs.Rules.{line_keeps}
+use Rattle.smol_config.proofs.Reading.{config_from-whole, ready, told_behind, whole_accepted, whole_refused}
 use Rattle.smol_config.proofs.reader.read_lines.Goals as goal
 
-pub read-requires : goal.read-requires
-read-requires c = ready c.loop-k.tables c.loop-k.invariant.0 c.loop-k.invariant.1 c.loop-k.invariant.2
+pub read-requires-clause-ready : goal.read-requires-clause-ready
+read-requires-clause-ready c = let read = c.loop-at.invariant.read in ready c.loop-at.tables read.0 read.1 read.2
 
-pub loop-k-preserved : goal.loop-k-preserved
-loop-k-preserved c =
-    let lines = stated_lines c.args.text.now in
-    let before = c.loop-k.invariant.0 in
-    let line = c.line-line.result in
-    let said = c.in-Ok.ensures before c.loop-k.invariant.1 in (
-      said.0 ∷ before,
-      said.2,
-      line_keeps before line said.0 said.1 c.loop-k.invariant.2,
-      c.loop-k.invariant.3 ∙ ap (read_from before) c.line-line.ensures.is_next ∙ read_from-next before line (drop (c.loop-k.k + 1) lines) said.0 said.1,
-    )
+pub loop-at-preserved : goal.loop-at-preserved
+loop-at-preserved c =
+    let before = c.loop-at.invariant.read in
+    let after = c.in_ok-at.ensures.reads before.0 before.1 before.2 in
+    record { within = c.in_ok-at.ensures.next.1; read = (after.0, after.1, after.2, before.3 ∙ after.3) }
 
-pub returns-in-Err-clause-refused : goal.returns-in-Err-clause-refused
-returns-in-Err-clause-refused c =
-    let lines = stated_lines c.args.text.now in
-    let before = c.loop-k.invariant.0 in
-    rw (c.told_at.ensures, c.number.ensures)
-    (refused_line lines (drop c.loop-k.k lines) before c.line-line.result (drop (c.loop-k.k + 1) lines) c.in-Err.refusal c.loop-k.invariant.3 c.line-line.ensures.is_next
-    (λ kind is. (rw is at c.in-Err.ensures) before c.loop-k.invariant.1))
+pub returns-in_err-at-clause-refused : goal.returns-in_err-at-clause-refused
+returns-in_err-at-clause-refused c =
+    let p = err_from_is_err_and c.from_residual.result c.from_residual.ensures.1 in
+    let before = c.loop-at.invariant.read in
+    rw (p.1, p.2)
+    (told_behind c.in_err-at.field-0.0 (stated_lines c.args.text.now) (drop c.loop-at.at (stated_lines c.args.text.now)) before.0 before.3 (c.in_err-at.ensures.reads before.0 before.1 before.2))
 
 -- what all lines say is what the whole says behind the last line
-ended : (c : goal.After-finish_whole) → config_from (stated_lines c.args.text.now) ≡ whole_in c.loop-k.invariant.0
+ended : (c : goal.After-finish_whole) → config_from (stated_lines c.args.text.now) ≡ whole_in c.loop-at.invariant.read.0
 ended c =
     let lines = stated_lines c.args.text.now in
-    let passed : length lines ≤ c.loop-k.k = omega arith in
-    config_from-whole lines (drop c.loop-k.k lines) c.loop-k.invariant.0 c.loop-k.invariant.3 (drop_all c.loop-k.k lines passed)
+    let passed : length lines ≤ c.loop-at.at = omega arith in
+    let read = c.loop-at.invariant.read in
+    config_from-whole lines (drop c.loop-at.at lines) read.0 read.3 (drop_all c.loop-at.at lines passed)
 
 pub returns-clause-accepted : goal.returns-clause-accepted
 returns-clause-accepted c =
-    whole_accepted (stated_lines c.args.text.now) c.loop-k.invariant.0 c.loop-k.tables c.finish_whole.result (ended c) c.loop-k.invariant.1 c.finish_whole.ensures.accepted
+    whole_accepted (stated_lines c.args.text.now) c.loop-at.invariant.read.0 c.loop-at.tables c.finish_whole.result (ended c) c.loop-at.invariant.read.1 c.finish_whole.ensures.accepted
 
 pub returns-clause-refused : goal.returns-clause-refused
 returns-clause-refused c =
-    whole_refused (stated_lines c.args.text.now) c.loop-k.invariant.0 c.loop-k.tables c.finish_whole.result (ended c) c.loop-k.invariant.1 c.finish_whole.ensures.refused
+    whole_refused (stated_lines c.args.text.now) c.loop-at.invariant.read.0 c.loop-at.tables c.finish_whole.result (ended c) c.loop-at.invariant.read.1 c.finish_whole.ensures.refused

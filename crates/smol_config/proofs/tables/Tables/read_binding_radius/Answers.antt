@@ -1,6 +1,6 @@
 use Rattle.std.proofs.Common.{refl}
 use Rattle.smol_reactions.specs.Statements.{binding_radius_said}
-use Rattle.smol_config.specs.declared.statement.Statement.TheVariants as statement
+use Rattle.smol_blocks.specs.declared.statement.Statement.TheVariants as statement
 use Rattle.smol_config.specs.Reader.{statement_in}
 use Rattle.smol_config.proofs.Held.{reactions_read}
 use Rattle.smol_config.proofs.tables.Tables.read_binding_radius.Goals as goal

@@ -4,7 +4,7 @@ use Rattle.smol_reactions.specs.Statements.{product_placement_said}
 use Rattle.smol_reactions.specs.Table.{Reads}
 use Rattle.smol_config.specs.Axes.{dims_of}
 use Rattle.smol_config.specs.Species.{species_of}
-use Rattle.smol_config.specs.declared.statement.Statement.TheVariants as statement
+use Rattle.smol_blocks.specs.declared.statement.Statement.TheVariants as statement
 use Rattle.smol_config.specs.Reader.{statement_in}
 use Rattle.smol_config.proofs.Held.{reactions_read}
 use Rattle.smol_config.proofs.tables.Tables.read_product_placement.Goals as goal

@@ -2,7 +2,7 @@ use Rattle.std.proofs.Common.{ℕ, List, refl, subst}
 use Rattle.smol_reactions.specs.Statements.{reaction_said}
 use Rattle.smol_reactions.specs.Table.{Reads}
 use Rattle.smol_config.specs.Species.{species_of}
-use Rattle.smol_config.specs.declared.statement.Statement.TheVariants as statement
+use Rattle.smol_blocks.specs.declared.statement.Statement.TheVariants as statement
 use Rattle.smol_config.specs.Reader.{statement_in}
 use Rattle.smol_config.proofs.Held.{reactions_read}
 use Rattle.smol_config.proofs.tables.Tables.read_reaction.Goals as goal

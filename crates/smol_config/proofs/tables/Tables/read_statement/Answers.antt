@@ -16,5 +16,5 @@ pub returns-in-Unknown : goal.returns-in-Unknown
 unfolding statement_in
 returns-in-Unknown c before holds = rw c.in-Unknown.is refl
 
-pub read_species-requires : goal.read_species-requires
-read_species-requires c before h = let place = c.requires.place before h in (rw c.in-Species.is at place)
+pub returns-in-Block : goal.returns-in-Block
+returns-in-Block c = absurd (c.requires.apart c.in-Block.field-0 c.in-Block.is)
