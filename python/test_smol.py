@@ -245,7 +245,7 @@ class Tables(unittest.TestCase):
 
     def test_of_a_run(self):
         result = smol.run(EXAMPLES / "enzyme.txt")
-        self.assertEqual(result.counts()["P"], [0, 35, 72, 99, 121, 136])
+        self.assertEqual(result.counts()["P"], [0, 31, 69, 103, 127, 149])
         self.assertEqual(len(result.counts("enzyme_counts.txt")["time"]), 201)
         self.assertEqual(dict(smol.run(EXAMPLES / "count.txt").counts()), {"time": [0.0, 1.0], "A": [3, 3]})
 
