@@ -12,4 +12,4 @@ returns c =
     let items = ap into_iter_items c.skip.ensures.source in
     let count = ap into_iter_len c.skip.ensures.source ∙ c.args.args.rest.ok.0 in
     items_from_collect _ c.collect.ensures.ran
-    (YieldsList-from_skip 1 (YieldsList-from_vec {s = skip_source c.skip.result} all items count) c.skip.ensures.count)
+    (YieldsList-from_skip _ (YieldsList-from_vec {s = skip_source c.skip.result} all items count) c.skip.ensures.count)
