@@ -8,11 +8,10 @@ use std::env::Args;
 use std::io::{self, ErrorKind};
 
 // All but the first.
-fn behind_name(alloc: Global, mut args: Args) -> Result<Vec<String>, AllocError>
+fn behind_name(alloc: Global, args: Args) -> Result<Vec<String>, AllocError>
     ensures { IfOk result (λ words. words.items ≡ drop 1 (into_iter_items args)) }
 {
-    let _name = args.next();
-    args.collect(alloc)
+    args.skip(1).collect(alloc)
 }
 
 /// The words behind the program's name, of what the system gives. Words that are no text stand for none, which is
