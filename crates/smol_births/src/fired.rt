@@ -1,6 +1,6 @@
 //! Reactions that take place.
 ghost use Rattle.std.specs.Prelude.{◌≡◌, ◌^◌, ◌<◌, length};
-ghost use Rattle.smol_meaning.specs.Chance.{axis_drawn, pair_stream};
+ghost use Rattle.smol_streams.specs.Chance.{axis_drawn, pair_stream};
 ghost use Rattle.smol_meaning.specs.Encounters.{Encounter, event_of_two, start_of_two};
 ghost use Rattle.smol_meaning.specs.Events.{lone_event};
 ghost use Rattle.smol_meaning.specs.Motion.{difstep_of};

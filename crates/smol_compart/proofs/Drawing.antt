@@ -8,7 +8,7 @@ use Rattle.smol_types.specs.declared.placing.Given.{Given}
 use Rattle.smol_types.specs.declared.placing.Given.TheVariants.{Any, At}
 use Rattle.smol_types.specs.declared.wall.Wall.{Wall}
 use Rattle.smol_types.specs.Walls.{AreWalls, IsAxis}
-use Rattle.smol_meaning.specs.Chance.{coordinate_drawn}
+use Rattle.smol_streams.specs.Chance.{coordinate_drawn}
 use Rattle.smol_meaning.specs.Placement.{anywhere, coordinates_at, coordinate_unused, first_inside, place_at_try}
 use Rattle.smol_meaning.specs.Inside.{is_inside}
 use Rattle.smol_compart.specs.Coordinate.{coordinate_between, coordinate_on}

@@ -2,7 +2,7 @@
 ghost use Rattle.std.specs.Prelude.{◌≡◌, ◌^◌, ◌<◌, length};
 ghost use Rattle.smol_types.specs.Sound.{IsSound};
 ghost use Rattle.smol_types.specs.Walls.{AreWalls, IsAxis};
-ghost use Rattle.smol_meaning.specs.Chance.{coordinate_drawn};
+ghost use Rattle.smol_streams.specs.Chance.{coordinate_drawn};
 ghost use Rattle.smol_meaning.specs.Placement.{first_inside, most_tries, place_at_try};
 ghost use Rattle.smol_compart.specs.Coordinate.{coordinate_on};
 

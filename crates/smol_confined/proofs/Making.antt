@@ -18,7 +18,7 @@ use Rattle.smol_meaning.specs.declared.event.Birth.{Birth}
 use Rattle.smol_meaning.specs.declared.event.Fired.{Fired}
 use Rattle.smol_meaning.specs.Births.{IsBirth, IsEvent}
 use Rattle.smol_meaning.specs.Box.{IsInside}
-use Rattle.smol_meaning.specs.Chance.{axis_drawn}
+use Rattle.smol_streams.specs.Chance.{axis_drawn}
 use Rattle.smol_meaning.specs.Events.{birth_move, births_in, births_of_event, born, event_of_one, lone_event, placement_of, products_of}
 use Rattle.smol_meaning.specs.Placed.{StandsWithin}
 use Rattle.smol_meaning.specs.Seen.{IsClosedBox}

@@ -13,7 +13,7 @@ use Rattle.smol_types.specs.declared.state.Mol.{Mol}
 use Rattle.smol_types.specs.declared.state.State.{State}
 use Rattle.smol_types.specs.Sound.{IsSound}
 use Rattle.smol_meaning.specs.Box.{IsInside}
-use Rattle.smol_meaning.specs.Chance.{pair_stream}
+use Rattle.smol_streams.specs.Chance.{pair_stream}
 use Rattle.smol_meaning.specs.Encounters.{Encounter, encounters_from, encounters_of, encounters_of_two, encounters_with, event_of_two, may_react}
 use Rattle.smol_meaning.specs.Events.{is_free}
 use Rattle.smol_meaning.specs.Meeting.{IsEncounter}

@@ -7,7 +7,7 @@ use Rattle.smol_types.specs.declared.draft.Draft.{Draft}
 use Rattle.smol_types.specs.declared.reaction.Reaction.{Reaction}
 use Rattle.smol_types.specs.declared.state.Mol.{Mol}
 use Rattle.smol_types.specs.Reactions.{share_of}
-use Rattle.smol_meaning.specs.Chance.{first_order_word}
+use Rattle.smol_streams.specs.Chance.{first_order_word}
 use Rattle.smol_meaning.specs.Events.{is_free, lone_reaction, reaction_drawn}
 use Rattle.smol_meaning.specs.Who.{DrawsAlone, DrawsNone}
 

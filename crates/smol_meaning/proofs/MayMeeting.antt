@@ -11,7 +11,7 @@ use Rattle.smol_plan.specs.declared.pair.Pair.{Pair}
 use Rattle.smol_types.specs.declared.draft.Draft.{Draft}
 use Rattle.smol_types.specs.declared.state.Mol.{Mol}
 use Rattle.smol_types.specs.Reactions.{reacts_together}
-use Rattle.smol_meaning.specs.Chance.{pair_word}
+use Rattle.smol_streams.specs.Chance.{pair_word}
 use Rattle.smol_meaning.specs.Encounters.{Encounter, are_near, candidates_of, encounters_of, encounters_of_two, may_react, pair_of}
 use Rattle.smol_meaning.specs.Sight.{are_hidden}
 use Rattle.smol_meaning.specs.Who.{AreOfTwo, DrawsNone, MayMeet}

@@ -24,7 +24,7 @@ use Rattle.smol_streams.specs.Words.{key_of_seed, number_below, word_of}
 use Rattle.smol_streams.proofs.Sizes.{word_small}
 use Rattle.smol_meaning.specs.Sighted.{IsPlaceWithin}
 use Rattle.smol_meaning.proofs.Places.{IsCoordinate, coordinates_within, place_within_more}
-use Rattle.smol_meaning.specs.Chance.{coordinate_drawn}
+use Rattle.smol_streams.specs.Chance.{coordinate_drawn}
 use Rattle.smol_meaning.specs.Inside.{is_inside}
 use Rattle.smol_meaning.specs.Placement.{NoPlace, anywhere, coordinate_at, coordinates_at, first_inside, mol_at, most_tries, opened, opened_with, opening_state, place_at_try, placed_behind, placed_from, placed_many, placed_one, placed_together}
 

@@ -20,7 +20,7 @@ use Rattle.smol_types.specs.Reactions.{share_of}
 use Rattle.smol_types.specs.Sound.{IsSound}
 use Rattle.smol_meaning.specs.declared.event.Fired.{Fired}
 use Rattle.smol_meaning.specs.Births.{IsEvent}
-use Rattle.smol_meaning.specs.Chance.{axis_drawn, first_order_word, pair_stream}
+use Rattle.smol_streams.specs.Chance.{axis_drawn, first_order_word, pair_stream}
 use Rattle.smol_meaning.specs.Encounters.{Encounter, encounters_from, encounters_of, encounters_with, event_of_two, pair_of, reacting}
 use Rattle.smol_meaning.specs.Events.{event_of_one, is_free, lone_event, lone_events, lone_reaction, reaction_drawn}
 use Rattle.smol_meaning.specs.Meeting.{IsEncounter}

@@ -11,7 +11,7 @@ use Rattle.smol_types.specs.declared.command.Act.TheVariants as act
 use Rattle.smol_types.specs.declared.command.Command.{Command}
 use Rattle.smol_types.specs.declared.state.Mol.{Mol}
 use Rattle.smol_types.specs.declared.state.State.{State}
-use Rattle.smol_meaning.specs.Chance.{command_word}
+use Rattle.smol_streams.specs.Chance.{command_word}
 use Rattle.smol_meaning.specs.Inside.{is_inside}
 use Rattle.smol_meaning.specs.Lines.{count_line, counts_from, header_line, mol_line, positions_line}
 use Rattle.smol_meaning.specs.Stretch.{Stretch, becomes, idle, is_over, prints, stops}

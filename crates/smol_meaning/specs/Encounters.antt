@@ -11,7 +11,7 @@ use Rattle.smol_types.specs.declared.reaction.Reaction.{Reaction}
 use Rattle.smol_types.specs.declared.state.Mol.{Mol}
 use Rattle.smol_types.specs.Reactions.{reacts_together}
 use Rattle.smol_meaning.specs.declared.event.Fired.{Fired}
-use Rattle.smol_meaning.specs.Chance.{pair_axis, pair_word}
+use Rattle.smol_streams.specs.Chance.{pair_axis, pair_word}
 use Rattle.smol_meaning.specs.Events.{is_free}
 use Rattle.smol_meaning.specs.Motion.{difstep_of}
 use Rattle.smol_meaning.specs.Sight.{are_hidden}

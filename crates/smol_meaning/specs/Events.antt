@@ -12,7 +12,7 @@ use Rattle.smol_types.specs.declared.state.Mol.{Mol}
 use Rattle.smol_types.specs.Reactions.{share_of}
 use Rattle.smol_meaning.specs.declared.event.Birth.{Birth}
 use Rattle.smol_meaning.specs.declared.event.Fired.{Fired}
-use Rattle.smol_meaning.specs.Chance.{first_order_word, lone_axis}
+use Rattle.smol_streams.specs.Chance.{first_order_word, lone_axis}
 use Rattle.smol_meaning.specs.Motion.{Move, arrived, end_of_move}
 
 -- of reactions from this number on, where those before have so many words, the one whose words hold this one: the shares that

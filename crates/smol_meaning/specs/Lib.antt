@@ -5,7 +5,6 @@ pub mod Crossing
 pub mod Box
 pub mod Seen
 pub mod Moves
-pub mod Chance
 pub mod Sight
 pub mod Sighted
 pub mod Inside

@@ -10,7 +10,7 @@ use Rattle.smol_types.specs.declared.state.Mol.{Mol}
 use Rattle.smol_types.specs.declared.state.State.{State}
 use Rattle.smol_types.specs.declared.wall.Wall.{Wall}
 use Rattle.smol_types.specs.Placings.{placed_by}
-use Rattle.smol_meaning.specs.Chance.{coordinate_drawn}
+use Rattle.smol_streams.specs.Chance.{coordinate_drawn}
 use Rattle.smol_meaning.specs.Inside.{is_inside}
 
 -- how often a place is drawn for a molecule that is to be inside a compartment

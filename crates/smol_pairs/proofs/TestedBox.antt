@@ -24,7 +24,7 @@ use Rattle.smol_types.specs.Reactions.{IsReaction, reacts_alone, share_of}
 use Rattle.smol_types.specs.Sound.{IsSound}
 use Rattle.smol_types.specs.State.{Ascend}
 use Rattle.smol_types.specs.Walls.{AreWalls, IsAxis}
-use Rattle.smol_meaning.specs.Chance.{first_order_word}
+use Rattle.smol_streams.specs.Chance.{first_order_word}
 use Rattle.smol_meaning.specs.Events.{is_free, reaction_drawn}
 use Rattle.smol_meaning.specs.Sighted.{IsPlaceWithin}
 use Rattle.smol_pairs.specs.Moved.{AreMoved}

@@ -1,7 +1,7 @@
 //! Whether two molecules may react.
 ghost use Rattle.std.specs.Prelude.{◌≡◌, ◌<◌, ◌^◌, length};
 ghost use Rattle.smol_types.specs.Reactions.{IsReaction, reacts_together};
-ghost use Rattle.smol_meaning.specs.Chance.{pair_word};
+ghost use Rattle.smol_streams.specs.Chance.{pair_word};
 ghost use Rattle.smol_meaning.specs.Encounters.{may_react};
 ghost use Rattle.smol_pairs.specs.Ranked.{IsRanked, encounter_of};
 

@@ -1,5 +1,5 @@
 use Rattle.std.proofs.Common.{sym}
-use Rattle.smol_meaning.specs.Chance.{first_order_word}
+use Rattle.smol_streams.specs.Chance.{first_order_word}
 use Rattle.smol_births.proofs.Drawn.{none_drawn}
 use Rattle.smol_births.proofs.draws.first_order.Goals as goal
 
