@@ -5,3 +5,4 @@ pub mod Cuts
 pub mod EndedRuns
 pub mod Files
 pub mod Safety
+pub mod Statuses

@@ -1,13 +1,21 @@
--- How a run that doesn't come to its end is told: by a status and a line of its own, or as cut off.
+-- How a call that doesn't come to its end is told: by a status and a line of its own, or as cut off.
 use Rattle.std.specs.Prelude.{ℕ, List, Result, Ok, Err}
+use Rattle.smol_edge.specs.declared.take_fault.TakeFault.{TakeFault}
+use Rattle.smol_edge.specs.declared.take_fault.TakeFault.TheVariants as take
 use Rattle.smol_loop.specs.declared.run_fault.RunFault.{RunFault}
 use Rattle.smol_loop.specs.declared.run_fault.RunFault.TheVariants as fault
 use Rattle.smol_run.specs.declared.ended.Ended.{Ended}
 use Rattle.smol_run.specs.declared.ended.Ended.TheVariants.{NoPlace, TooMany}
 use Rattle.smol_run.specs.declared.loss.Loss.{Loss}
 use Rattle.smol_run.specs.declared.loss.Loss.TheVariants as loss
+use Rattle.smol_run.specs.declared.refusal.Refusal.{Refusal}
 use Rattle.smol_run.specs.declared.status.Status.{Status}
 use Rattle.smol_run.specs.declared.status.Status.TheVariants as status
+use Rattle.smol_run.specs.declared.stop.Stop.{Stop}
+use Rattle.smol_run.specs.declared.stop.Stop.TheVariants as stop
+use Rattle.smol_types.specs.declared.fault.ConfigFault.{ConfigFault}
+use Rattle.smol_types.specs.declared.fault.ConfigFault.TheVariants as config
+use Rattle.smol_types.specs.declared.fault.Kind.TheVariants as kind
 use Rattle.smol_run.specs.Outcome.{no_place_line, over_line}
 
 -- a molecule without a place and too many molecules end a run. A failing write and want of memory cut it off
@@ -26,3 +34,21 @@ status_of_end (TooMany step) = status.Over
 abbrev pub line_of_end : Ended → List ℕ
 line_of_end (NoPlace line serial) = no_place_line line serial
 line_of_end (TooMany step) = over_line step
+
+-- a text whose content is refused is told by its line and its kind. Want of memory cuts the call off
+abbrev pub refusal_of : ConfigFault → Result Refusal Loss
+refusal_of (config.At line kind) = Ok (record { line = line; kind = kind })
+refusal_of config.OutOfMemory = Err loss.Memory
+
+-- a text that is too long is refused as a whole. A failing read and want of memory stop the call
+abbrev pub refusal_of_take : TakeFault → Result Refusal Stop
+refusal_of_take take.TooLong = Ok (record { line = 0; kind = kind.TooLong })
+refusal_of_take take.ReadFault = Err stop.Input
+refusal_of_take take.OutOfMemory = Err stop.Memory
+
+-- the status of an answer: a status is its own, and each thing that stops a call has one
+abbrev pub status_told : Result Status Stop → Status
+status_told (Ok status) = status
+status_told (Err stop.Input) = status.Input
+status_told (Err stop.Output) = status.Output
+status_told (Err stop.Memory) = status.Memory

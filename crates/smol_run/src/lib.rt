@@ -4,10 +4,11 @@
 mod ended;
 mod error_lines;
 mod loss;
+#[cfg(test)]
+mod meeting;
 mod outputs;
 mod program;
-#[cfg(test)]
-mod rows;
+mod refusal;
 mod run;
 mod status;
 mod stop;

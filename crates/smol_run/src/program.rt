@@ -9,13 +9,14 @@ ghost use Rattle.smol_run.specs.Outcome.{outcome_of, outcome_of_file, outcome_of
 
 use crate::error_lines::{fault_text, tell};
 use crate::loss::Loss;
+use crate::refusal::{refusal_of, refusal_of_take};
 use crate::run::run_config;
-use crate::status::Status;
+use crate::status::{Status, status_told};
 use crate::stop::Stop;
 use crate::words::{Job, read_words};
 use smol_config::read_config;
-use smol_edge::{Gate, Outlets, Source, TakeFault, take_all};
-use smol_types::{Config, ConfigFault, Kind};
+use smol_edge::{Gate, Outlets, Source, take_all};
+use smol_types::Config;
 use std::alloc::Global;
 use std::thread::Threads;
 
@@ -67,12 +68,8 @@ pub fn run_program<R: Threads + Sync, S: Source, K: Outlets, G: Gate + Sync>(
     ensures asked { Tells (S.told source.old) (S.told source.new)
         (AsksForJob (job_of (map (λ word. string_bytes word) words.now)) (map (λ word. string_bytes word) words.now)) }
 {
-    match run_words(rt, alloc, words, source, outlets, gate) {
-        Ok(status) => status,
-        Err(Stop::Input) => Status::Input,
-        Err(Stop::Output) => Status::Output,
-        Err(Stop::Memory) => Status::Memory,
-    }
+    let made = run_words(rt, alloc, words, source, outlets, gate);
+    status_told(made)
 }
 
 // Runs what the words ask for.
@@ -166,8 +163,10 @@ fn run_text<R: Threads + Sync, K: Outlets, G: Gate + Sync>(
             outlets,
             gate,
         ),
-        Err(ConfigFault::At { line, kind }) => refuse(alloc, outlets, line, kind.text()),
-        Err(ConfigFault::OutOfMemory) => Err(Loss::Memory),
+        Err(fault) => {
+            let refusal = refusal_of(fault)?;
+            refuse(alloc, outlets, refusal.line, refusal.kind.text())
+        }
     }
 }
 
@@ -199,8 +198,9 @@ fn run_file<R: Threads + Sync, S: Source, K: Outlets, G: Gate + Sync>(
     };
     match take_all(alloc, source, MOST_BYTES) {
         Ok(text) => Ok(run_text(rt, alloc, &text, seed, workers, outlets, gate)?),
-        Err(TakeFault::TooLong) => Ok(refuse(alloc, outlets, 0, Kind::TooLong.text())?),
-        Err(TakeFault::ReadFault) => Err(Stop::Input),
-        Err(TakeFault::OutOfMemory) => Err(Stop::Memory),
+        Err(fault) => {
+            let refusal = refusal_of_take(fault)?;
+            Ok(refuse(alloc, outlets, refusal.line, refusal.kind.text())?)
+        }
     }
 }

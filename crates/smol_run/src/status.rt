@@ -1,4 +1,7 @@
 ghost use Rattle.std.specs.Prelude.{◌≡◌};
+ghost use Rattle.smol_run.specs.Told.{status_told};
+
+use crate::stop::Stop;
 
 /// How a run ends.
 #[derive(Clone, Copy, Debug, PartialEq, Eq)]
@@ -27,5 +30,17 @@ impl Status {
         ensures { result ≡ exit_code_of self }
     {
         self as u8
+    }
+}
+
+/// The status of an answer: a status is its own, and each thing that stops a call has one.
+pub fn status_told(made: Result<Status, Stop>) -> Status
+    ensures { result ≡ status_told made }
+{
+    match made {
+        Ok(status) => status,
+        Err(Stop::Input) => Status::Input,
+        Err(Stop::Output) => Status::Output,
+        Err(Stop::Memory) => Status::Memory,
     }
 }
