@@ -9,11 +9,6 @@ ghost use Rattle.smol_meaning.specs.Events.{lone_reaction, reaction_drawn};
 use smol_streams::Streams;
 use smol_types::{Config, Mol, Reaction};
 
-// How many places a step has in a molecule's stream, and which of them has the word of its reaction.
-const WORDS_A_STEP: u128 = 32;
-
-const REACTION_WORD: u128 = 18;
-
 // Whether the species is the one reactant.
 fn reacts_alone(species: u16, reactants: &[u16]) -> bool
     ensures { result ≡ reacts_alone species reactants.now }
@@ -71,6 +66,6 @@ pub fn first_order(config: &Config, m: &Mol, streams: &mut Streams, k: u32) -> O
     if !may_react(m.species, reactions) {
         return None;
     }
-    let word = streams.word(m.serial, WORDS_A_STEP * u128::from(k) + REACTION_WORD);
+    let word = streams.first_order_word(m.serial, k);
     reaction_drawn(m.species, reactions, word)
 }
