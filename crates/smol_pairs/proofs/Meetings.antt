@@ -1,9 +1,11 @@
--- The pairs that encounters make.
+-- The encounters of a step, and the pairs that they make.
 use Rattle.std.proofs.Common.{◌≡◌, ℕ, ◌+◌, ◌<◌, ◌≤◌, Bool, true, false, List, [], ◌∷◌, ◌++◌, length, get_or, drop, map, All, Option, None, refl, sym, ap, subst, ◌∙◌, arith, append_assoc, append-nil, drop-cons, add-one}
 use Rattle.std.specs.Prelude.{if◌then◌else◌, is_some, filter, Contains}
 use Rattle.std.specs.List.{list_any}
 use Rattle.std.proofs.lemmas.List.{drop_all, get_or-map, map-append}
-use Rattle.std.proofs.lemmas.List.Elements.{All-nil, All-cons, All-append, All-head, All-tail, All-weaker, Contains-append_left, Contains-append_right, Contains-push}
+use Rattle.std.specs.Option.{option_map_or}
+use Rattle.std.proofs.lemmas.Option.{slice_get_within}
+use Rattle.std.proofs.lemmas.List.Elements.{All-nil, All-cons, All-append, All-head, All-map, All-tail, All-weaker, Contains-append_left, Contains-append_right, Contains-push}
 use Rattle.smol_types.specs.declared.draft.Draft.{Draft}
 use Rattle.smol_types.specs.declared.reaction.Reaction.{Reaction}
 use Rattle.smol_types.specs.declared.state.Mol.{Mol}
@@ -12,29 +14,33 @@ use Rattle.smol_plan.specs.declared.pair.Pair.{Pair}
 use Rattle.smol_plan.specs.Pair.{IsOrdered}
 use Rattle.smol_meaning.specs.Encounters.{Encounter, candidates_of, encounters_from, encounters_of, encounters_of_two, encounters_with, may_react, pair_of}
 use Rattle.smol_meaning.specs.Events.{is_free}
+use Rattle.smol_meaning.specs.Meeting.{IsEncounter}
+use Rattle.smol_meaning.proofs.Meeting.{encounters_are}
+use Rattle.smol_pairs.specs.declared.encounter.Encounter.{Encounter as Ranks}
+use Rattle.smol_pairs.specs.Encounters.{AreRanksIn, pair_at, ranks_of}
 use Rattle.smol_pairs.specs.Moved.{IsAmong, free_serials}
-use Rattle.smol_pairs.specs.Reach.{reach_of}
+use Rattle.smol_pairs.specs.Reach.{reach_of, reaches_of}
 use Rattle.smol_pairs.proofs.Reaching.{IsBeyond, beyond_first, no_reach, not_by}
 
--- where encounters come before others, or are left out, the pairs are those so far and those of the others
-pub pairs_taken : (here there all : List Encounter) (taken : Bool) (so_far new : List Pair) → all ≡ (if taken then here else []) ++ there → taken ≡ true
-    → new ≡ so_far ++ map pair_of here → new ++ map pair_of there ≡ so_far ++ map pair_of all
-pairs_taken here there all true so_far new is taken added =
-    ap (λ (pairs : List Pair). pairs ++ map pair_of there) added ∙ append_assoc so_far (map pair_of here) (map pair_of there)
-    ∙ ap (λ (pairs : List Pair). so_far ++ pairs) (sym (map-append pair_of here there) ∙ ap (map pair_of) (sym is))
-pairs_taken here there all false so_far new is taken added = absurd (cc)
+-- where encounters come before others, or are left out, those that are found are those so far and the others
+pub found_taken : (here there all : List Encounter) (taken : Bool) (so_far new : List Ranks) → all ≡ (if taken then here else []) ++ there → taken ≡ true
+    → new ≡ so_far ++ map ranks_of here → new ++ map ranks_of there ≡ so_far ++ map ranks_of all
+found_taken here there all true so_far new is taken added =
+    ap (λ (found : List Ranks). found ++ map ranks_of there) added ∙ append_assoc so_far (map ranks_of here) (map ranks_of there)
+    ∙ ap (λ (found : List Ranks). so_far ++ found) (sym (map-append ranks_of here there) ∙ ap (map ranks_of) (sym is))
+found_taken here there all false so_far new is taken added = absurd (cc)
 
-pub pairs_passed : (here there all : List Encounter) (taken : Bool) (so_far : List Pair) → all ≡ (if taken then here else []) ++ there → taken ≡ false
-    → so_far ++ map pair_of there ≡ so_far ++ map pair_of all
-pairs_passed here there all true so_far is taken = absurd (cc)
-pairs_passed here there all false so_far is taken = ap (λ (encounters : List Encounter). so_far ++ map pair_of encounters) (sym is)
+pub found_passed : (here there all : List Encounter) (taken : Bool) (so_far : List Ranks) → all ≡ (if taken then here else []) ++ there → taken ≡ false
+    → so_far ++ map ranks_of there ≡ so_far ++ map ranks_of all
+found_passed here there all true so_far is taken = absurd (cc)
+found_passed here there all false so_far is taken = ap (λ (encounters : List Encounter). so_far ++ map ranks_of encounters) (sym is)
 
 -- the same where others follow none
-pub pairs_none : (here there all : List Encounter) (taken : Bool) (so_far : List Pair) → all ≡ (if taken then here else []) ++ there → here ≡ []
-    → so_far ++ map pair_of there ≡ so_far ++ map pair_of all
-pairs_none here there all true so_far is none =
-    ap (λ (encounters : List Encounter). so_far ++ map pair_of encounters) (sym (ap (λ (first : List Encounter). first ++ there) none) ∙ sym is)
-pairs_none here there all false so_far is none = ap (λ (encounters : List Encounter). so_far ++ map pair_of encounters) (sym is)
+pub found_none : (here there all : List Encounter) (taken : Bool) (so_far : List Ranks) → all ≡ (if taken then here else []) ++ there → here ≡ []
+    → so_far ++ map ranks_of there ≡ so_far ++ map ranks_of all
+found_none here there all true so_far is none =
+    ap (λ (encounters : List Encounter). so_far ++ map ranks_of encounters) (sym (ap (λ (first : List Encounter). first ++ there) none) ∙ sym is)
+found_none here there all false so_far is none = ap (λ (encounters : List Encounter). so_far ++ map ranks_of encounters) (sym is)
 
 module _ (draft : Draft) (seed k : ℕ) where
   -- the encounters of a molecule with those that are left, the next one first
@@ -62,13 +68,13 @@ module _ (draft : Draft) (seed k : ℕ) where
       ap (λ (free : List Bool). get_or free rank false) is ∙ get_or-map (is_free draft seed k) mols rank d false within
 
   -- where none are left, all are there
-  pub none_left : (rank : ℕ) (mols : List Mol) (pairs : List Pair) → length mols ≤ rank
-      → pairs ++ map pair_of (encounters_from draft seed k rank (drop rank mols)) ≡ map pair_of (encounters_from draft seed k 0 mols)
-      → pairs ≡ candidates_of draft seed k mols
+  pub none_left : (rank : ℕ) (mols : List Mol) (found : List Ranks) → length mols ≤ rank
+      → found ++ map ranks_of (encounters_from draft seed k rank (drop rank mols)) ≡ map ranks_of (encounters_from draft seed k 0 mols)
+      → found ≡ map ranks_of (encounters_of draft seed k mols)
   unfolding encounters_of
-  none_left rank mols pairs past is =
+  none_left rank mols found past is =
       let none : drop rank mols ≡ [] = drop_all rank mols past in
-      sym (append-nil pairs) ∙ sym (ap (λ (left : List Mol). pairs ++ map pair_of (encounters_from draft seed k rank left)) none) ∙ is
+      sym (append-nil found) ∙ sym (ap (λ (left : List Mol). found ++ map ranks_of (encounters_from draft seed k rank left)) none) ∙ is
 
   -- molecules that are beyond the reach of the first have no encounter
   pub none_of_two : (rank_a : ℕ) (a : Mol) (rank_b : ℕ) (b : Mol) (number : ℕ) (reactions : List Reaction)
@@ -95,16 +101,19 @@ module _ (draft : Draft) (seed k : ℕ) where
       let out = subst (λ (reach : Option ℕ). IsBeyond reach a.place b.place) (sym none) tt in
       left_out (is_free draft seed k b) _ _ (none_of_two rank_a a rank b 0 draft.reactions out) (none_with rank_a a (rank + 1) mols none)
 
-  none_from : (rank : ℕ) (mols : List Mol) → list_any (λ (reaction : Reaction). is_some reaction.radius) draft.reactions ≡ false
+  -- nor does anybody where no species reaches others
+  none_from : (rank : ℕ) (mols : List Mol) → All (λ (mol : Mol). mol.species < length draft.species) mols → list_any is_some (reaches_of draft) ≡ false
       → encounters_from draft seed k rank mols ≡ []
-  none_from rank [] none = refl
-  none_from rank (a ∷ mols) none =
-      left_out (is_free draft seed k a) _ _ (none_with rank a (rank + 1) mols (no_reach a.species draft.reactions none)) (none_from (rank + 1) mols none)
+  none_from rank [] are none = refl
+  none_from rank (a ∷ mols) are none =
+      let There = λ (mol : Mol). mol.species < length draft.species in
+      left_out (is_free draft seed k a) _ _ (none_with rank a (rank + 1) mols (no_reach draft a.species (All-head There a mols are) none))
+      (none_from (rank + 1) mols (All-tail There a mols are) none)
 
-  pub no_candidates : (mols : List Mol) → list_any (λ (reaction : Reaction). is_some reaction.radius) draft.reactions ≡ false
-      → candidates_of draft seed k mols ≡ []
+  pub no_encounters : (mols : List Mol) → All (λ (mol : Mol). mol.species < length draft.species) mols → list_any is_some (reaches_of draft) ≡ false
+      → encounters_of draft seed k mols ≡ []
   unfolding encounters_of
-  no_candidates mols none = ap (map pair_of) (none_from 0 mols none)
+  no_encounters mols are none = none_from 0 mols are none
 
   module _ (P : Pair → Type 0) where
     all_taken : (taken : Bool) (encounters : List Encounter) → (taken ≡ true → All P (map pair_of encounters))
@@ -213,3 +222,31 @@ module _ (draft : Draft) (seed k : ℕ) where
   pub candidates_among : (mols : List Mol) → All (IsAmong draft seed k mols) (candidates_of draft seed k mols)
   unfolding encounters_of
   candidates_among mols = each_from (IsAmong draft seed k mols) 0 mols (each_among mols mols (each_free mols))
+
+  -- the ranks of encounters are those of molecules of the list, the lower one first
+  ranks_are : (e : Encounter) (mols : List Mol) → IsEncounter draft seed k mols e → AreRanksIn mols (ranks_of e)
+  ranks_are e mols is = record { apart = is.apart; within = slice_get_within mols e.rank_b e.b is.second }
+
+  pub all_ranks : (mols : List Mol) → All (AreRanksIn mols) (map ranks_of (encounters_of draft seed k mols))
+  all_ranks mols =
+      let encounters = encounters_of draft seed k mols in
+      All-map (AreRanksIn mols) ranks_of encounters
+      (All-weaker (IsEncounter draft seed k mols) (λ (e : Encounter). AreRanksIn mols (ranks_of e)) (λ e is. ranks_are e mols is) encounters
+      (encounters_are draft seed k mols))
+
+  -- and the serials at the ranks are those of the molecules
+  pair_there : (e : Encounter) (mols : List Mol) → IsEncounter draft seed k mols e → pair_at mols (ranks_of e) ≡ pair_of e
+  pair_there e mols is =
+      let serial = λ (mol : Option Mol). option_map_or (λ (mol : Mol). mol.serial) mol 0 in
+      λ i. record { a = serial (is.first i); b = serial (is.second i); reaction = e.reaction }
+
+  pairs_there : (mols : List Mol) (es : List Encounter) → All (IsEncounter draft seed k mols) es
+      → map (pair_at mols) (map ranks_of es) ≡ map pair_of es
+  pairs_there mols [] are = refl
+  pairs_there mols (e ∷ es) are =
+      let here = pair_there e mols (All-head (IsEncounter draft seed k mols) e es are) in
+      let rest = pairs_there mols es (All-tail (IsEncounter draft seed k mols) e es are) in
+      λ i. here i ∷ rest i
+
+  pub pairs_at : (mols : List Mol) → map (pair_at mols) (map ranks_of (encounters_of draft seed k mols)) ≡ candidates_of draft seed k mols
+  pairs_at mols = pairs_there mols (encounters_of draft seed k mols) (encounters_are draft seed k mols)

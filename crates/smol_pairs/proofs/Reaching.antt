@@ -1,17 +1,20 @@
 -- Molecules that are out of reach of each other don't react.
-use Rattle.std.proofs.Common.{◌≡◌, ℕ, ◌*◌, ◌≤◌, Bool, true, false, ◌&&◌, ◌==◌, List, [], ◌∷◌, Option, None, Some, unsigned_abs, refl, ap, subst, arith}
+use Rattle.std.proofs.Common.{◌≡◌, ℕ, ◌*◌, ◌<◌, ◌≤◌, Bool, true, false, ◌&&◌, ◌==◌, List, [], ◌∷◌, length, get_or, Option, None, Some, unsigned_abs, refl, ap, ◌∙◌, subst, arith}
 use Rattle.std.specs.Prelude.{◌||◌, if◌then◌else◌, is_some, max, nat_le, not}
 use Rattle.std.specs.List.{list_any}
 use Rattle.std.proofs.lemmas.Bool.{or_parts}
 use Rattle.std.proofs.lemmas.Bool.Decides.{nat_tests}
+use Rattle.std.proofs.lemmas.List.Folds.{list_any_at}
+use Rattle.std.proofs.lemmas.List.FromFn.{get_or-map-range_with_len, length-map-range_with_len}
 use Rattle.smol_num.specs.declared.quantities.Micro.{Micro}
 use Rattle.smol_geom.specs.declared.place.Place.{Place}
 use Rattle.smol_geom.specs.Place.{gap, square_of_distance}
+use Rattle.smol_types.specs.declared.draft.Draft.{Draft}
 use Rattle.smol_types.specs.declared.reaction.Reaction.{Reaction}
 use Rattle.smol_types.specs.Reactions.{reacts_together}
 use Rattle.smol_meaning.specs.Encounters.{are_near}
 use Rattle.smol_pairs.specs.Near.{are_within_on}
-use Rattle.smol_pairs.specs.Reach.{in_ticks, is_out_of_reach, longer, reach_by, reach_of}
+use Rattle.smol_pairs.specs.Reach.{in_ticks, is_out_of_reach, longer, reach_by, reach_of, reaches_of}
 use Rattle.smol_pairs.proofs.Distances.{too_far}
 
 pub longer_none : (reach : Option ℕ) → longer reach None ≡ reach
@@ -91,17 +94,24 @@ pub beyond_first : (species : ℕ) (reaction : Reaction) (reactions : List React
     → IsBeyond (reach_by species reaction) a b × IsBeyond (reach_of species reactions) a b
 beyond_first species reaction reactions a b out = beyond_each (reach_by species reaction) (reach_of species reactions) a b out
 
--- without a radius nobody reaches anybody
-no_reach_by : (has : Bool) (radius : Option Micro) → is_some radius ≡ false → (if has then in_ticks radius else None) ≡ None
-no_reach_by true None none = refl
-no_reach_by false None none = refl
-no_reach_by has (Some radius) none = absurd (cc)
+no_more : (reach : Option ℕ) (some : Bool) → (is_some reach ≡ true → some ≡ true) → some ≡ false → reach ≡ None
+no_more None some has none = refl
+no_more (Some reach) some has none = let here = has refl in absurd (cc)
 
-pub no_reach : (species : ℕ) (reactions : List Reaction) → list_any (λ (reaction : Reaction). is_some reaction.radius) reactions ≡ false
-    → reach_of species reactions ≡ None
-no_reach species [] none = refl
-no_reach species (reaction ∷ reactions) none =
-    let parts = or_parts (is_some reaction.radius) (list_any (λ (reaction : Reaction). is_some reaction.radius) reactions) none in
-    let here = no_reach_by (list_any (λ (reactant : ℕ). reactant == species) reaction.reactants) reaction.radius parts.0 in
-    let rest = no_reach species reactions parts.1 in
-    λ i. longer (here i) (rest i)
+-- the table has an entry for each species
+pub reach_count : (draft : Draft) → length (reaches_of draft) ≡ length draft.species
+reach_count draft = length-map-range_with_len (λ (species : ℕ). reach_of species draft.reactions) 0 (length draft.species)
+
+pub reach_at : (draft : Draft) (species : ℕ) (d : Option ℕ) → species < length draft.species
+    → get_or (reaches_of draft) species d ≡ reach_of species draft.reactions
+reach_at draft species d there =
+    get_or-map-range_with_len (λ (species : ℕ). reach_of species draft.reactions) 0 (length draft.species) species species d there (omega arith)
+
+-- where no species reaches others, this one doesn't
+pub no_reach : (draft : Draft) (species : ℕ) → species < length draft.species → list_any is_some (reaches_of draft) ≡ false
+    → reach_of species draft.reactions ≡ None
+no_reach draft species there none =
+    let reaches = reaches_of draft in
+    let inside : species < length reaches = omega (arith, reach_count draft, there) in
+    no_more (reach_of species draft.reactions) (list_any is_some reaches)
+    (λ some. list_any_at is_some reaches species None inside (ap is_some (reach_at draft species None there) ∙ some)) none

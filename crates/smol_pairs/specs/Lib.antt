@@ -1,3 +1,4 @@
+pub mod Encounters
 pub mod Moved
 pub mod Near
 pub mod Ranked

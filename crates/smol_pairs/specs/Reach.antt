@@ -1,8 +1,9 @@
 -- How far a molecule reaches on an axis.
-use Rattle.std.specs.Prelude.{ℕ, ◌*◌, ◌==◌, ◌&&◌, Bool, List, [], ◌∷◌, Option, None, Some, if◌then◌else◌, max, not, unsigned_abs}
-use Rattle.std.specs.List.{list_any}
+use Rattle.std.specs.Prelude.{ℕ, ◌*◌, ◌==◌, ◌&&◌, Bool, List, [], ◌∷◌, Option, None, Some, if◌then◌else◌, length, map, max, not, unsigned_abs}
+use Rattle.std.specs.List.{list_any, range_with_len}
 use Rattle.smol_num.specs.declared.quantities.Micro.{Micro}
 use Rattle.smol_geom.specs.declared.place.Place.{Place}
+use Rattle.smol_types.specs.declared.draft.Draft.{Draft}
 use Rattle.smol_types.specs.declared.reaction.Reaction.{Reaction}
 use Rattle.smol_pairs.specs.Near.{are_within_on}
 
@@ -25,6 +26,10 @@ reach_by species reaction = if list_any (λ (reactant : ℕ). reactant == specie
 abbrev pub reach_of : ℕ → List Reaction → Option ℕ
 reach_of species [] = None
 reach_of species (reaction ∷ reactions) = longer (reach_by species reaction) (reach_of species reactions)
+
+-- how far each species of a configuration reaches, by its number
+abbrev pub reaches_of : Draft → List (Option ℕ)
+reaches_of draft = map (λ (species : ℕ). reach_of species draft.reactions) (range_with_len 0 (length draft.species))
 
 -- whether two places are farther apart on some axis than a molecule reaches
 abbrev pub is_out_of_reach : ℕ → Place → Place → Bool

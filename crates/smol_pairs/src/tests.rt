@@ -175,8 +175,31 @@ fn found<R: Threads + Sync>(
     candidates(rt, alloc, config, mols, &free, 7, 1)
 }
 
+// Which molecules may react, where none of them reacts alone, by a table that is made for it.
+fn met<R: Threads + Sync>(
+    rt: &R,
+    alloc: Global,
+    config: &Config,
+    mols: &[Mol],
+) -> Result<Vec<Encounter>, AllocError>
+    requires moved { AreMoved config.now mols.now }
+    requires two { All (λ (reaction : Reaction). length reaction.reactants ≡ 2) config.now.reactions }
+{
+    let free = all_free(alloc, mols)?;
+    let reaches = Reaches::of(alloc, config)?;
+    encounters(rt, alloc, config, &reaches, mols, &free, 7, 1)
+}
+
 fn pair(a: u64, b: u64, reaction: u16) -> Pair {
     Pair { a, b, reaction }
+}
+
+fn ranks(rank_a: u32, rank_b: u32, reaction: u16) -> Encounter {
+    Encounter {
+        rank_a,
+        rank_b,
+        reaction,
+    }
 }
 
 // Four A at one place, a B and an A at another one, and an A and a B that the panel hides from each other.
@@ -331,5 +354,33 @@ fn molecules_as_far_apart_as_a_radius_may_react(rt: HostRuntime) -> Result<(), F
         pair(1, 12, 2),
     ];
     assert_eq!(rt; pairs.as_slice(), want.as_slice());
+    Ok(())
+}
+
+#[test]
+fn encounters_have_the_ranks_of_their_molecules(rt: HostRuntime) -> Result<(), Fail> {
+    let alloc = rt.alloc();
+    let config = tested_box(alloc)?;
+    let encounters = met(&rt, alloc, &config, &TOGETHER)?;
+    let want = [
+        ranks(0, 1, 0),
+        ranks(0, 2, 0),
+        ranks(0, 3, 0),
+        ranks(1, 2, 0),
+        ranks(1, 3, 0),
+        ranks(2, 3, 0),
+        ranks(4, 5, 1),
+        ranks(4, 5, 2),
+    ];
+    assert_eq!(rt; encounters.as_slice(), want.as_slice());
+    Ok(())
+}
+
+#[test]
+fn a_species_reaches_as_far_as_its_longest_radius(rt: HostRuntime) -> Result<(), Fail> {
+    let config = tested_box(rt.alloc())?;
+    let reaches = Reaches::of(rt.alloc(), &config)?;
+    assert_eq!(rt; reaches.reach(0), Some(4_000_000));
+    assert_eq!(rt; reaches.reach(1), Some(4_000_000));
     Ok(())
 }
