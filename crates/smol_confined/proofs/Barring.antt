@@ -22,7 +22,9 @@ use Rattle.smol_meaning.specs.declared.way.Response.TheVariants.{Reflect}
 use Rattle.smol_meaning.specs.Box.{Covers, IsClosed, IsFaceShut, IsInside}
 use Rattle.smol_meaning.specs.Folds.{IsPlate, IsSheet}
 use Rattle.smol_meaning.specs.Placed.{StandsWithin}
-use Rattle.smol_meaning.specs.Plates.{Plate, Sheet, Rectangle, Plane, response_of, sheet_axis, sheet_plane}
+use Rattle.smol_meaning.specs.declared.sheet.Sheet.{Sheet}
+use Rattle.smol_meaning.specs.declared.sheet.Sheet.TheVariants.{Rectangle, Plane}
+use Rattle.smol_meaning.specs.Plates.{Plate, response_of, sheet_axis, sheet_plane}
 use Rattle.smol_meaning.specs.Seen.{plates_of}
 use Rattle.smol_meaning.specs.Sight.{bars, is_barred, is_below, line_meets, passes}
 use Rattle.smol_meaning.proofs.Bounds.{plane_small}

@@ -20,7 +20,9 @@ use Rattle.smol_geom.proofs.Ways.{low_products, high_products}
 use Rattle.smol_types.specs.Limits.{farthest}
 use Rattle.smol_meaning.specs.declared.way.Response.{Response}
 use Rattle.smol_meaning.specs.declared.way.Response.TheVariants.{Reflect, Absorb, Jump, Pass}
-use Rattle.smol_meaning.specs.Plates.{Plate, Sheet, Rectangle, Plane, is_on, is_met, goes_up, response_of, responses_met, deciding, plane_at, done_by, are_same, shifted, mirrored, sheet_axis, sheet_plane, IsOn}
+use Rattle.smol_meaning.specs.declared.sheet.Sheet.{Sheet}
+use Rattle.smol_meaning.specs.declared.sheet.Sheet.TheVariants.{Rectangle, Plane}
+use Rattle.smol_meaning.specs.Plates.{Plate, is_on, is_met, goes_up, response_of, responses_met, deciding, plane_at, done_by, are_same, shifted, mirrored, sheet_axis, sheet_plane, IsOn}
 use Rattle.smol_meaning.specs.Way.{end_on}
 use Rattle.smol_meaning.specs.Moves.{IsMove}
 use Rattle.smol_meaning.specs.Folds.{IsSheet, IsPlate, IsResponse, IsJump, LandsWithin, FoldFits, StandingFits}

@@ -30,7 +30,9 @@ use Rattle.smol_meaning.specs.declared.way.Standing.TheVariants.{Goes, Gone}
 use Rattle.smol_meaning.specs.Box.{IsInside, IsInRegion, Covers, IsFaceShut, StaysPut, IsClosed, LiesFrom, StaysInRegion, EndsInside, Confines}
 use Rattle.smol_meaning.specs.Folds.{IsPlate}
 use Rattle.smol_meaning.specs.Moves.{IsMove}
-use Rattle.smol_meaning.specs.Plates.{Sheet, Rectangle, Plane, Plate, is_met, is_on, goes_up, response_of, responses_met, precedence, deciding, done_by, plane_at, mirrored, sheet_axis, sheet_plane}
+use Rattle.smol_meaning.specs.declared.sheet.Sheet.{Sheet}
+use Rattle.smol_meaning.specs.declared.sheet.Sheet.TheVariants.{Rectangle, Plane}
+use Rattle.smol_meaning.specs.Plates.{Plate, is_met, is_on, goes_up, response_of, responses_met, precedence, deciding, done_by, plane_at, mirrored, sheet_axis, sheet_plane}
 use Rattle.smol_meaning.specs.Way.{after_moment, after_moments, end_on, ended, straight, way_among}
 use Rattle.smol_meaning.proofs.Bounds.{used, flat_sheet, plane_small}
 use Rattle.smol_meaning.proofs.Planes.{IsFlat, start_on, way_on, point_is, plane_met, between_plane}

@@ -12,7 +12,9 @@ use Rattle.smol_geom.specs.Fraction.{Fraction, whole, ◌≤ℚ◌}
 use Rattle.smol_geom.specs.Rect.{HoldsPoint}
 use Rattle.smol_meaning.specs.declared.way.Response.{Response}
 use Rattle.smol_meaning.specs.declared.way.Response.TheVariants.{Reflect, Absorb, Jump, Pass}
-use Rattle.smol_meaning.specs.Plates.{Plate, Sheet, Rectangle, Plane, IsOn, is_between, is_in_rect, is_on, is_met, goes_up, response_of, responses_met, first_of, precedence, deciding}
+use Rattle.smol_meaning.specs.declared.sheet.Sheet.{Sheet}
+use Rattle.smol_meaning.specs.declared.sheet.Sheet.TheVariants.{Rectangle, Plane}
+use Rattle.smol_meaning.specs.Plates.{Plate, IsOn, is_between, is_in_rect, is_on, is_met, goes_up, response_of, responses_met, first_of, precedence, deciding}
 use Rattle.smol_geom.specs.Moments.{Has}
 use Rattle.smol_geom.proofs.Integers.{sums}
 use Rattle.smol_meaning.specs.Box.{StaysPut}

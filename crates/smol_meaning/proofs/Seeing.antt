@@ -22,7 +22,8 @@ use Rattle.smol_types.specs.Sound.{IsSound}
 use Rattle.smol_types.specs.Walls.{AreWalls}
 use Rattle.smol_meaning.specs.declared.way.Response.{Response}
 use Rattle.smol_meaning.specs.Folds.{IsPlate, IsResponse, IsJump, IsPanelRect, IsWallPlane}
-use Rattle.smol_meaning.specs.Plates.{Sheet, Rectangle, Plane}
+use Rattle.smol_meaning.specs.declared.sheet.Sheet.{Sheet}
+use Rattle.smol_meaning.specs.declared.sheet.Sheet.TheVariants.{Rectangle, Plane}
 use Rattle.smol_meaning.specs.Seen.{arrival_face, response_by, corner_gap, jump_between, panel_jump, panel_response, panel_plate, opposite_of, wall_jump, wall_response, wall_plate, plates_of}
 
 -- what holds of all holds of the one that is got, where one is
