@@ -22,7 +22,9 @@ use Rattle.smol_meaning.specs.declared.way.Response.TheVariants.{Reflect}
 use Rattle.smol_meaning.specs.Box.{Covers, IsClosed, IsFaceShut, IsInside}
 use Rattle.smol_meaning.specs.Folds.{IsPlate, IsSheet}
 use Rattle.smol_meaning.specs.Placed.{StandsWithin}
-use Rattle.smol_meaning.specs.Plates.{Plate, Sheet, Rectangle, Plane, response_of, sheet_axis, sheet_plane}
+use Rattle.smol_meaning.specs.declared.sheet.Sheet.{Sheet}
+use Rattle.smol_meaning.specs.declared.sheet.Sheet.TheVariants.{Rectangle, Plane}
+use Rattle.smol_meaning.specs.Plates.{Plate, response_of, sheet_axis, sheet_plane}
 use Rattle.smol_meaning.specs.Seen.{plates_of}
 use Rattle.smol_meaning.specs.Sight.{bars, is_barred, is_below, line_meets, passes}
 use Rattle.smol_meaning.proofs.Bounds.{plane_small}
@@ -46,7 +48,7 @@ one_at most zero (x ∷ xs) (suc axis) within unused are = one_at most zero xs a
 one_at most (suc dims) (x ∷ xs) zero within unused are = absurd (omega arith)
 one_at most (suc dims) (x ∷ xs) (suc axis) within unused are = one_at most dims xs axis (omega arith) (omega arith) are.2
 
-module _ (dims most : ℕ) (plates : List Plate) (fit : All (IsPlate dims) plates) (box : Cuboid) (closed : IsClosed dims plates box) (a b : Place) (from : StandsWithin dims most a) (to : StandsWithin dims most b) (inside : IsInside box a) where
+module _ (dims most : ℕ) (plates : List Plate) (fit : All (IsPlate dims) plates) (among : ℕ → Bool) (box : Cuboid) (closed : IsClosed dims plates among box) (species : ℕ) (kin : among species ≡ true) (a b : Place) (from : StandsWithin dims most a) (to : StandsWithin dims most b) (inside : IsInside box a) where
   odd_end : (j : ℕ) → j < 3 → IsOdd (on_axis b.0 j)
   odd_end j l = odd_at most dims b.0 j (omega (arith, to.axes)) to.coordinates
 
@@ -63,7 +65,7 @@ module _ (dims most : ℕ) (plates : List Plate) (fit : All (IsPlate dims) plate
   abbrev bound : ℕ → ℤ
   bound j = bound_to (on_axis box.low j) (on_axis box.high j) (on_axis a.0 j) (on_axis b.0 j)
 
-  face_even : (j : ℕ) (plane : ℤ) (upper : Bool) → IsFaceShut plates box j plane upper → IsEven plane
+  face_even : (j : ℕ) (plane : ℤ) (upper : Bool) → IsFaceShut plates species box j plane upper → IsEven plane
   face_even j plane upper face =
       let sheet = (all_had (IsPlate dims) plates face.plate (has_contained plates face.plate face.listed) fit).sheet in
       subst (λ z. unsigned_abs z % 2 ≡ 0) face.at_plane (plane_small face.plate.sheet sheet).1
@@ -73,7 +75,7 @@ module _ (dims most : ℕ) (plates : List Plate) (fit : All (IsPlate dims) plate
   ends_within j l enough = ⊎_elim
       (λ (used : j < dims).
       ends_between (on_axis box.low j) (on_axis box.high j) (on_axis a.0 j) (on_axis b.0 j) (inside j l).0 (inside j l).1
-      (face_even j (on_axis box.low j) false (closed.lower j used)) (face_even j (on_axis box.high j) true (closed.upper j used)) (odd_end j l) enough)
+      (face_even j (on_axis box.low j) false (closed.lower species kin j used)) (face_even j (on_axis box.high j) true (closed.upper species kin j used)) (odd_end j l) enough)
       (λ (unused : dims ≤ j).
       let same : on_axis a.0 j ≡ on_axis b.0 j =
       one_at most dims a.0 j (omega (arith, from.axes)) unused from.coordinates ∙ sym (one_at most dims b.0 j (omega (arith, to.axes)) unused to.coordinates) in
@@ -154,41 +156,42 @@ module _ (dims most : ℕ) (plates : List Plate) (fit : All (IsPlate dims) plate
             (cases_eq k j)
 
     -- the shut face at the bound bars the line
-    face_bars : (plane : ℤ) (upper : Bool) (face : IsFaceShut plates box j plane upper) → bound j ≡ plane → int_lt (on_axis a.0 j) plane ≡ upper
-        → bars a b face.plate ≡ true
+    face_bars : (plane : ℤ) (upper : Bool) (face : IsFaceShut plates species box j plane upper) → bound j ≡ plane → int_lt (on_axis a.0 j) plane ≡ upper
+        → bars species a b face.plate ≡ true
     face_bars plane upper face here side =
         let sheet = (all_had (IsPlate dims) plates face.plate (has_contained plates face.plate face.listed) fit).sheet in
         let below_is : is_below face.plate.sheet a ≡ upper = (λ i. int_lt (on_axis a.0 (face.across i)) (face.at_plane i)) ∙ side in
-        let turned : response_of face.plate (is_below face.plate.sheet a) ≡ Reflect = ap (response_of face.plate) below_is ∙ face.reflects in
+        let turned : response_of face.plate (is_below face.plate.sheet a) species ≡ Reflect = ap (λ up. response_of face.plate up species) below_is ∙ face.reflects in
         and_from _ _ (face_met face.plate.sheet sheet face.across (face.at_plane ∙ sym here) face.covers)
         (ap (λ (response : Response). not (passes response)) turned)
 
     -- so some plate does
-    barred : list_any (bars a b) plates ≡ true
+    barred : list_any (bars species a b) plates ≡ true
     barred = ⊎_elim
         (λ up.
-        some (on_axis box.high j) true (closed.upper j used)
+        some (on_axis box.high j) true (closed.upper species kin j used)
         (ap (λ (up : Bool). cond up (on_axis box.high j) (on_axis box.low j)) up) (less_from _ _ (inside j is.among).1))
         (λ down.
-        some (on_axis box.low j) false (closed.lower j used)
+        some (on_axis box.low j) false (closed.lower species kin j used)
         (ap (λ (up : Bool). cond up (on_axis box.high j) (on_axis box.low j)) down) (not_less_from _ _ (inside j is.among).0))
         (cases_Bool (int_lt (on_axis a.0 j) (on_axis b.0 j)))
       where
-        some : (plane : ℤ) (upper : Bool) → IsFaceShut plates box j plane upper → bound j ≡ plane → int_lt (on_axis a.0 j) plane ≡ upper → list_any (bars a b) plates ≡ true
+        some : (plane : ℤ) (upper : Bool) → IsFaceShut plates species box j plane upper → bound j ≡ plane → int_lt (on_axis a.0 j) plane ≡ upper → list_any (bars species a b) plates ≡ true
         some plane upper face here side =
-            list_any_at (bars a b) plates face.listed.0 face.plate face.listed.1
-            (ap (bars a b) face.listed.2 ∙ face_bars plane upper face here side)
+            list_any_at (bars species a b) plates face.listed.0 face.plate face.listed.1
+            (ap (bars species a b) face.listed.2 ∙ face_bars plane upper face here side)
 
   -- a line from inside ends inside, or is barred
-  pub ends_or_barred : IsInside box b ⊎ (list_any (bars a b) plates ≡ true)
+  pub ends_or_barred : IsInside box b ⊎ (list_any (bars species a b) plates ≡ true)
   ends_or_barred = ⊎_elim (λ all. inl (λ j l. ends_within j l (all j l))) (λ found. inr (barred found.0 found.1)) (meets_first room far 3)
 
--- what a molecule of a species is not barred from that is inside a closed reflecting box is inside
-pub seen_inside : (draft : Draft) → IsSound draft → (most species : ℕ) (box : Cuboid) → IsClosed draft.dims (plates_of draft species) box → (a b : Place)
+-- what a molecule is not barred from that is inside a box that is closed for its species is inside
+pub seen_inside : (draft : Draft) → IsSound draft → (most : ℕ) (among : ℕ → Bool) (box : Cuboid) → IsClosed draft.dims (plates_of draft) among box
+    → (species : ℕ) → among species ≡ true → (a b : Place)
     → StandsWithin draft.dims most a → StandsWithin draft.dims most b → IsInside box a → is_barred draft species a b ≡ false → IsInside box b
-seen_inside draft sound most species box closed a b from to inside seen =
+seen_inside draft sound most among box closed species kin a b from to inside seen =
     ⊎_elim (λ (there : IsInside box b). there) (λ hidden. absurd (no (is_barred draft species a b) hidden seen))
-    (ends_or_barred draft.dims most (plates_of draft species) (plates_fit draft species sound) box closed a b from to inside)
+    (ends_or_barred draft.dims most (plates_of draft) (plates_fit draft sound) among box closed species kin a b from to inside)
   where
     no : (test : Bool) → test ≡ true → test ≡ false → ⊥
     no test barred seen = cc

@@ -10,7 +10,7 @@ use Rattle.smol_types.specs.declared.surface.Face.TheVariants.{Front, Back}
 use Rattle.smol_types.specs.declared.surface.Panel.{Panel}
 use Rattle.smol_types.specs.Actions.{panel_action}
 use Rattle.smol_meaning.specs.Box.{Covers}
-use Rattle.smol_meaning.specs.Plates.{Rectangle}
+use Rattle.smol_meaning.specs.declared.sheet.Sheet.TheVariants.{Rectangle}
 use Rattle.smol_confined.specs.Built.{IsBuilt, IsHeld, IsNoJumpIn, IsNoPeriodIn}
 use Rattle.smol_confined.specs.Example.{HasBoxAndDoors, box_and_doors, far_door, high_x, high_y, high_z, low_x, low_y, low_z, near_door, periodic, side, sixty, small_box, surfaces_of_both, ten, twenty}
 

@@ -2,6 +2,7 @@
 use Rattle.std.proofs.Common.{◌≡◌, ℕ, ◌+◌, ◌<◌, Bool, true, false, not, inl, inr, length, map, refl, sym, ap, subst, ◌∙◌, arith, ℤ}
 use Rattle.std.specs.Prelude.{Contains}
 use Rattle.std.specs.List.{enumerate_from}
+use Rattle.std.proofs.lemmas.Bool.{ltb-true}
 use Rattle.std.proofs.lemmas.List.Elements.{All-contains, Contains-append_left, Contains-append_right}
 use Rattle.smol_geom.specs.declared.cuboid.Cuboid.{Cuboid}
 use Rattle.smol_geom.specs.Axes.{on_axis}
@@ -16,7 +17,7 @@ use Rattle.smol_types.specs.Sound.{IsSound}
 use Rattle.smol_meaning.specs.declared.way.Response.TheVariants.{Reflect}
 use Rattle.smol_meaning.specs.Box.{IsClosed, IsFaceShut}
 use Rattle.smol_meaning.specs.Plates.{response_of}
-use Rattle.smol_meaning.specs.Seen.{IsClosedBox, arrival_face, opposite_of, panel_jump, panel_plate, plates_of, response_by, wall_jump, wall_plate}
+use Rattle.smol_meaning.specs.Seen.{IsClosedBox, arrival_face, is_species, opposite_of, panel_jump, panel_plate, plates_of, response_by, wall_jump, wall_plate}
 use Rattle.smol_confined.specs.Built.{IsBuilt, IsHeld, IsPanelAt, IsWallAt, inner_face}
 use Rattle.smol_confined.proofs.Listed.{got_there, has_numbered}
 use Rattle.smol_confined.proofs.Quiet.{IsQuiet, all_quiet, panel_acts, wall_acts}
@@ -38,7 +39,7 @@ front_is false false same = refl
 
 module _ (draft : Draft) (species : ℕ) where
   response_here : (entry : ℕ × Panel) (upper : Bool) → action_of draft entry.0 (arrival_face entry.1.greater upper) species ≡ action.Reflect
-      → response_of (panel_plate draft species entry) upper ≡ Reflect
+      → response_of (panel_plate draft entry) upper species ≡ Reflect
   response_here entry true is =
       ap (λ act. response_by entry.0 act (panel_jump draft.panels entry.1 (destination_of entry.1 (arrival_face entry.1.greater true)))) is
   response_here entry false is =
@@ -46,14 +47,14 @@ module _ (draft : Draft) (species : ℕ) where
 
   wall_response_here : (entry : ℕ × Wall) (upper : Bool) → action_of draft entry.0
       (arrival_face (not entry.1.upper) upper) species ≡ action.Reflect
-      → response_of (wall_plate draft species entry) upper ≡ Reflect
+      → response_of (wall_plate draft entry) upper species ≡ Reflect
   wall_response_here entry true is = ap (λ act. response_by entry.0 act (wall_jump entry.1 true (opposite_of draft.walls entry.1))) is
   wall_response_here entry false is = ap (λ act. response_by entry.0 act (wall_jump entry.1 false (opposite_of draft.walls entry.1))) is
 
   module _ (box : Cuboid) (axis : ℕ) (plane : ℤ) (upper : Bool) where
     -- a face that a panel holds is shut
-    panel_shuts : (panel : Panel) → IsPanelAt draft species box axis plane upper panel → IsFaceShut
-        (plates_of draft species) box axis plane upper
+    panel_shuts : (panel : Panel) → IsPanelAt draft species box axis plane upper panel
+        → IsFaceShut (plates_of draft) species box axis plane upper
     unfolding plates_of
     panel_shuts panel is =
         let there = got_there draft.panels panel is.listed in
@@ -61,12 +62,12 @@ module _ (draft : Draft) (species : ℕ) where
         let face = inner_is panel panel.greater upper refl in
         let at : 0 + there.0 ≡ there.0 = omega arith in
         record {
-          plate = panel_plate draft species (there.0, panel);
-          listed = Contains-append_left (map (panel_plate draft species) (enumerate_from 0 draft.panels))
-              (map (wall_plate draft species) (enumerate_from (length draft.panels) draft.walls)) _
-              (subst (λ k. Contains (map (panel_plate draft species) (enumerate_from 0 draft.panels))
-              (panel_plate draft species (k, panel))) at
-              (contains_had _ _ (has_numbered (panel_plate draft species) 0 draft.panels there.0 panel there.1)));
+          plate = panel_plate draft (there.0, panel);
+          listed = Contains-append_left (map (panel_plate draft) (enumerate_from 0 draft.panels))
+              (map (wall_plate draft) (enumerate_from (length draft.panels) draft.walls)) _
+              (subst (λ k. Contains (map (panel_plate draft) (enumerate_from 0 draft.panels))
+              (panel_plate draft (k, panel))) at
+              (contains_had _ _ (has_numbered (panel_plate draft) 0 draft.panels there.0 panel there.1)));
           across = is.across;
           at_plane = is.at_plane;
           covers = is.covers;
@@ -75,37 +76,38 @@ module _ (draft : Draft) (species : ℕ) where
         }
 
     -- and so is one at which a wall stands
-    wall_shuts : (wall : Wall) → IsWallAt draft axis plane upper wall → IsFaceShut (plates_of draft species) box axis plane upper
+    wall_shuts : (wall : Wall) → IsWallAt draft axis plane upper wall → IsFaceShut (plates_of draft) species box axis plane upper
     unfolding plates_of
     wall_shuts wall is =
         let there = got_there draft.walls wall is.listed in
         let acts = wall_acts draft species there.0 wall (arrival_face (not wall.upper) upper) there.1 in
         let face = front_is wall.upper upper is.side in
         record {
-          plate = wall_plate draft species (length draft.panels + there.0, wall);
-          listed = Contains-append_right (map (panel_plate draft species) (enumerate_from 0 draft.panels))
-              (map (wall_plate draft species) (enumerate_from (length draft.panels) draft.walls)) _
-              (contains_had _ _ (has_numbered (wall_plate draft species) (length draft.panels) draft.walls there.0 wall there.1));
+          plate = wall_plate draft (length draft.panels + there.0, wall);
+          listed = Contains-append_right (map (panel_plate draft) (enumerate_from 0 draft.panels))
+              (map (wall_plate draft) (enumerate_from (length draft.panels) draft.walls)) _
+              (contains_had _ _ (has_numbered (wall_plate draft) (length draft.panels) draft.walls there.0 wall there.1));
           across = is.across;
           at_plane = is.at_plane;
           covers = tt;
           reflects = wall_response_here (length draft.panels + there.0, wall) upper (acts ∙ (λ i. wall_action (is.reflects i) (face i)));
         }
 
-    shut : IsHeld draft species box axis plane upper → IsFaceShut (plates_of draft species) box axis plane upper
+    shut : IsHeld draft species box axis plane upper → IsFaceShut (plates_of draft) species box axis plane upper
     shut (inl held) = panel_shuts held.0 held.1
     shut (inr held) = wall_shuts held.0 held.1
 
-  -- a box that is built is closed
-  pub is_closed : (box : Cuboid) → IsSound draft → IsBuilt draft species box → IsClosed draft.dims (plates_of draft species) box
-  is_closed box sound built = record {
-    lower = λ axis used. shut box axis (on_axis box.low axis) false (built.lower axis used);
-    upper = λ axis used. shut box axis (on_axis box.high axis) true (built.upper axis used);
-    quiet = λ plate listed point within on.
-        All-contains (IsQuiet draft species box) (plates_of draft species) plate
-        (all_quiet draft species box sound built.jumps built.periods) listed point within on;
-  }
+-- a box that is built for each species among these is closed for them
+pub is_closed : (draft : Draft) (among : ℕ → Bool) (box : Cuboid) → IsSound draft → ((species : ℕ) → among species ≡ true → IsBuilt draft species box)
+    → IsClosed draft.dims (plates_of draft) among box
+is_closed draft among box sound built = record {
+  lower = λ species kin axis used. shut draft species box axis (on_axis box.low axis) false ((built species kin).lower axis used);
+  upper = λ species kin axis used. shut draft species box axis (on_axis box.high axis) true ((built species kin).upper axis used);
+  quiet = λ plate listed point within on.
+      All-contains (IsQuiet draft among box) (plates_of draft) plate (all_quiet draft among box sound built) listed point within on;
+}
 
 pub is_closed_box : (draft : Draft) (box : Cuboid) → IsSound draft →
     ((species : ℕ) → species < length draft.species → IsBuilt draft species box) → IsClosedBox draft box
-is_closed_box draft box sound built = λ species within. is_closed draft species box sound (built species within)
+is_closed_box draft box sound built =
+    is_closed draft (is_species draft) box sound (λ species kin. built species (ltb-true species (length draft.species) kin))

@@ -1,7 +1,7 @@
 -- Two molecules that react are on one side of a closed reflecting box, and so is what they make.
-use Rattle.std.proofs.Common.{◌≡◌, ℕ, ◌+◌, ◌*◌, ◌^◌, Bool, true, false, not, ◌||◌, List, [], ◌∷◌, get_or, All, Some, slice_get, cond, nat_le, refl, subst}
+use Rattle.std.proofs.Common.{◌≡◌, ℕ, ◌+◌, ◌*◌, ◌^◌, Bool, true, false, not, ◌||◌, List, [], ◌∷◌, get_or, All, Some, slice_get, cond, length, nat_le, refl, subst}
 use Rattle.std.specs.Prelude.{◌↔◌}
-use Rattle.std.proofs.lemmas.Bool.{and_parts, cond_both}
+use Rattle.std.proofs.lemmas.Bool.{and_parts, cond_both, lt-ltb}
 use Rattle.std.proofs.lemmas.List.Elements.{All-append, All-cons, All-nil}
 use Rattle.std.proofs.lemmas.Option.{get_or_from_slice_get, slice_get_within}
 use Rattle.smol_geom.specs.declared.cuboid.Cuboid.{Cuboid}
@@ -19,7 +19,7 @@ use Rattle.smol_meaning.specs.Events.{is_free}
 use Rattle.smol_meaning.specs.Meeting.{IsEncounter}
 use Rattle.smol_meaning.specs.Motion.{difstep_of}
 use Rattle.smol_meaning.specs.Placed.{IsPlaced}
-use Rattle.smol_meaning.specs.Seen.{IsClosedBox}
+use Rattle.smol_meaning.specs.Seen.{IsClosedBox, is_species}
 use Rattle.smol_meaning.specs.Sight.{are_hidden, is_barred}
 use Rattle.smol_meaning.proofs.Kept.{All-picked}
 use Rattle.smol_meaning.proofs.Meeting.{encounter, encounters_are}
@@ -84,9 +84,12 @@ one_side : (draft : Draft) → IsSound draft → (most : ℕ) (box : Cuboid) →
 unfolding are_hidden
 one_side draft sound most box closed a b first second see =
     let seen = neither (is_barred draft a.species a.place b.place) (is_barred draft b.species b.place a.place) see in (
-      λ inside. seen_inside draft sound most a.species box (closed a.species first.species) a.place b.place first.place second.place inside seen.0,
-      λ inside. seen_inside draft sound most b.species box (closed b.species second.species) b.place a.place second.place first.place inside seen.1,
+      λ inside. seen_inside draft sound most (is_species draft) box closed a.species (known a first) a.place b.place first.place second.place inside seen.0,
+      λ inside. seen_inside draft sound most (is_species draft) box closed b.species (known b second) b.place a.place second.place first.place inside seen.1,
     )
+  where
+    known : (mol : Mol) → IsPlaced draft most mol → is_species draft mol.species ≡ true
+    known mol is = lt-ltb mol.species (length draft.species) is.species
 
 -- what holds of all holds of the one at a place
 pub at_place : (P : Mol → Type 0) (mols : List Mol) (i : ℕ) (mol : Mol) → slice_get mols i ≡ Some mol → All P mols → P mol

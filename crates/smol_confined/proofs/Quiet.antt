@@ -2,6 +2,7 @@
 use Rattle.std.proofs.Common.{◌≡◌, ℕ, zero, suc, ◌+◌, ◌-◌, ◌<◌, Bool, true, false, not, ◌⊎◌, inl, inr, List, [], ◌∷◌, length, map, All, refl, sym, ap, subst, ◌∙◌, arith, ℤ, pos, ◌*ℤ◌, ◌≤ℤ◌, ◌<ℤ◌}
 use Rattle.std.specs.Prelude.{Some, slice_get}
 use Rattle.std.specs.List.{enumerate_from}
+use Rattle.std.proofs.lemmas.Bool.{cond_both}
 use Rattle.std.proofs.lemmas.Int.{ints}
 use Rattle.std.proofs.lemmas.List.Elements.{All-append, All-map}
 use Rattle.std.proofs.lemmas.Option.{slice_get_past}
@@ -24,12 +25,12 @@ use Rattle.smol_types.specs.declared.wall.Wall.{Wall}
 use Rattle.smol_types.specs.Actions.{action_of, action_of_panel, action_of_wall, panel_action, wall_action}
 use Rattle.smol_types.specs.Sound.{IsSound}
 use Rattle.smol_meaning.specs.declared.way.Response.{Response}
-use Rattle.smol_meaning.specs.Box.{IsInRegion, StaysPut}
+use Rattle.smol_meaning.specs.Box.{IsInRegion, StaysAmong, StaysPut}
 use Rattle.smol_meaning.specs.Folds.{IsWallPlane}
-use Rattle.smol_meaning.specs.Plates.{IsOn, Plate}
-use Rattle.smol_meaning.specs.Seen.{arrival_face, panel_plate, panel_response, plates_of, response_by, wall_plate, wall_response}
+use Rattle.smol_meaning.specs.Plates.{IsOn, Plate, effect_of}
+use Rattle.smol_meaning.specs.Seen.{arrival_face, panel_effect, panel_plate, plates_of, response_by, wall_effect, wall_plate}
 use Rattle.smol_meaning.proofs.Seeing.{wall_planes_fit}
-use Rattle.smol_confined.specs.Built.{IsApart, IsNoJumpIn, IsNoPeriodIn}
+use Rattle.smol_confined.specs.Built.{IsApart, IsBuilt, IsNoJumpIn, IsNoPeriodIn}
 use Rattle.smol_confined.proofs.Listed.{all_numbered}
 
 -- a number from a lower to a higher one is no number below them or above them
@@ -99,28 +100,39 @@ module _ (draft : Draft) (species : ℕ) where
       ∙ ap (λ k. action_of_wall face (slice_get draft.walls k)) back
       ∙ ap (action_of_wall face) is
 
-  -- the plate moves no molecule elsewhere where it has a point in the region of the box
+module _ (draft : Draft) (among : ℕ → Bool) where
+  -- where the plate has a point in the region of the box, it moves no molecule of a species among these elsewhere, and makes one
+  -- of these species of it
   abbrev pub IsQuiet : Cuboid → Plate → Type 0
   IsQuiet box plate =
-      (point : ℕ → Fraction) → IsInRegion box point → IsOn plate.sheet point → StaysPut plate.from_below × StaysPut plate.from_above
+      (point : ℕ → Fraction) → IsInRegion box point → IsOn plate.sheet point → (species : ℕ) → among species ≡ true → (up : Bool)
+      → StaysAmong among (effect_of plate up species)
 
   panel_quiet : (box : Cuboid) (number : ℕ) (panel : Panel) → slice_get draft.panels number ≡ Some panel
-      → IsNoJumpIn draft species box panel
-      → IsQuiet box (panel_plate draft species (number, panel))
-  panel_quiet box number panel is apart = λ point within on.
-      let by : (face : Face) → StaysPut (panel_response draft species number panel face) = λ face.
-      stays number (action_of draft number face species) _
-      (λ e. none_of_rect panel.rect box point (apart face (sym (panel_acts number panel face is) ∙ e)) within on) in
-      (by (arrival_face panel.greater true), by (arrival_face panel.greater false))
+      → ((species : ℕ) → among species ≡ true → IsNoJumpIn draft species box panel)
+      → IsQuiet box (panel_plate draft (number, panel))
+  panel_quiet box number panel is apart = λ point within on species kin up.
+      let by : (face : Face) → StaysAmong among (panel_effect draft number panel face species) = λ face. record {
+        put = stays number (action_of draft number face species) _
+            (λ e. none_of_rect panel.rect box point (apart species kin face (sym (panel_acts draft species number panel face is) ∙ e)) within on);
+        kin = kin;
+      } in
+      cond_both up (panel_effect draft number panel (arrival_face panel.greater true) species)
+      (panel_effect draft number panel (arrival_face panel.greater false) species) (StaysAmong among)
+      (λ e. by (arrival_face panel.greater true)) (λ e. by (arrival_face panel.greater false))
 
-  wall_quiet : (box : Cuboid) (i : ℕ) (wall : Wall) → slice_get draft.walls i ≡ Some wall → wall.axis < 3 → IsNoPeriodIn box wall
-      → IsQuiet box (wall_plate draft species (length draft.panels + i, wall))
-  wall_quiet box i wall is l apart = λ point within on.
-      let by : (up : Bool) → StaysPut (wall_response draft species (length draft.panels + i) wall up) = λ up.
-      stays (length draft.panels + i) (action_of draft (length draft.panels + i) (arrival_face (not wall.upper) up) species) _
-      (λ e. none_of_wall wall box point l
-      (apart (only_periodic wall.letter _ (sym (wall_acts i wall (arrival_face (not wall.upper) up) is) ∙ e))) within on) in
-      (by true, by false)
+  wall_quiet : (box : Cuboid) (i : ℕ) (wall : Wall) → slice_get draft.walls i ≡ Some wall → wall.axis < 3
+      → ((species : ℕ) → among species ≡ true → IsNoPeriodIn box wall)
+      → IsQuiet box (wall_plate draft (length draft.panels + i, wall))
+  wall_quiet box i wall is l apart = λ point within on species kin up.
+      let by : (up : Bool) → StaysAmong among (wall_effect draft (length draft.panels + i) wall up species) = λ up. record {
+        put = stays (length draft.panels + i) (action_of draft (length draft.panels + i) (arrival_face (not wall.upper) up) species) _
+            (λ e. none_of_wall wall box point l
+            (apart species kin (only_periodic wall.letter _ (sym (wall_acts draft species i wall (arrival_face (not wall.upper) up) is) ∙ e))) within on);
+        kin = kin;
+      } in
+      cond_both up (wall_effect draft (length draft.panels + i) wall true species) (wall_effect draft (length draft.panels + i) wall false species)
+      (StaysAmong among) (λ e. by true) (λ e. by false)
 
   -- what holds of all holds of the one that is got
   got : {X : Type 0} → (Q : X → Type 0) (xs : List X) (i : ℕ) (x : X) → slice_get xs i ≡ Some x → All Q xs → Q x
@@ -128,18 +140,18 @@ module _ (draft : Draft) (species : ℕ) where
   got Q (y ∷ xs) zero x is all = let same : y ≡ x = cc in subst Q same (all 0 y (omega arith))
   got Q (y ∷ xs) (suc i) x is all = got Q xs i x is (λ k d l. all (suc k) d (omega arith))
 
-  pub all_quiet : (box : Cuboid) → IsSound draft → All (IsNoJumpIn draft species box) draft.panels → All (IsNoPeriodIn box) draft.walls
-      → All (IsQuiet box) (plates_of draft species)
+  pub all_quiet : (box : Cuboid) → IsSound draft → ((species : ℕ) → among species ≡ true → IsBuilt draft species box)
+      → All (IsQuiet box) (plates_of draft)
   unfolding plates_of
-  all_quiet box sound jumps periods =
-      All-append (IsQuiet box) (map (panel_plate draft species) (enumerate_from 0 draft.panels))
-      (map (wall_plate draft species) (enumerate_from (length draft.panels) draft.walls))
-      (All-map (IsQuiet box) (panel_plate draft species) (enumerate_from 0 draft.panels)
-      (all_numbered (λ entry. IsQuiet box (panel_plate draft species entry)) 0 draft.panels (λ i panel is.
+  all_quiet box sound built =
+      All-append (IsQuiet box) (map (panel_plate draft) (enumerate_from 0 draft.panels))
+      (map (wall_plate draft) (enumerate_from (length draft.panels) draft.walls))
+      (All-map (IsQuiet box) (panel_plate draft) (enumerate_from 0 draft.panels)
+      (all_numbered (λ entry. IsQuiet box (panel_plate draft entry)) 0 draft.panels (λ i panel is.
       let at : i ≡ 0 + i = omega arith in
-      subst (λ k. IsQuiet box (panel_plate draft species (k, panel))) at
-      (panel_quiet box i panel is (got (IsNoJumpIn draft species box) draft.panels i panel is jumps)))))
-      (All-map (IsQuiet box) (wall_plate draft species) (enumerate_from (length draft.panels) draft.walls)
-      (all_numbered (λ entry. IsQuiet box (wall_plate draft species entry)) (length draft.panels) draft.walls (λ i wall is.
-      wall_quiet box i wall is (got (λ w. IsWallPlane w.axis w.plane) draft.walls i wall is (wall_planes_fit draft species sound)).across
-      (got (IsNoPeriodIn box) draft.walls i wall is periods))))
+      subst (λ k. IsQuiet box (panel_plate draft (k, panel))) at
+      (panel_quiet box i panel is (λ species kin. got (IsNoJumpIn draft species box) draft.panels i panel is (built species kin).jumps)))))
+      (All-map (IsQuiet box) (wall_plate draft) (enumerate_from (length draft.panels) draft.walls)
+      (all_numbered (λ entry. IsQuiet box (wall_plate draft entry)) (length draft.panels) draft.walls (λ i wall is.
+      wall_quiet box i wall is (got (λ w. IsWallPlane w.axis w.plane) draft.walls i wall is (wall_planes_fit draft sound)).across
+      (λ species kin. got (IsNoPeriodIn box) draft.walls i wall is (built species kin).periods))))

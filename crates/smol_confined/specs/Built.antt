@@ -14,7 +14,7 @@ use Rattle.smol_types.specs.declared.wall.Letter.TheVariants.{R, P}
 use Rattle.smol_types.specs.declared.wall.Wall.{Wall}
 use Rattle.smol_types.specs.Actions.{panel_action}
 use Rattle.smol_meaning.specs.Box.{Covers}
-use Rattle.smol_meaning.specs.Plates.{Rectangle}
+use Rattle.smol_meaning.specs.declared.sheet.Sheet.TheVariants.{Rectangle}
 
 -- the face of a panel that is turned inwards where the panel is at an upper face of a box, which looks down, or at a lower one
 abbrev pub inner_face : Panel → Bool → Face

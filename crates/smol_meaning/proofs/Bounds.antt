@@ -1,5 +1,5 @@
 -- Each moment keeps a fold within its bounds.
-use Rattle.std.proofs.Common.{⊎_elim, ◌≡◌, ℕ, zero, suc, ◌+◌, ◌^◌, ◌%◌, ◌<◌, ◌≤◌, ◌==◌, Bool, true, ◌⊎◌, inl, inr, List, [], ◌∷◌, length, refl, sym, ◌∙◌, ap, subst, arith, ℤ, pos, neg_ℤ, ◌+ℤ◌, ◌-ℤ◌, ◌*ℤ◌, unsigned_abs, get_or-set_same, get_or-set_other, length-set}
+use Rattle.std.proofs.Common.{⊎_elim, ◌≡◌, ℕ, zero, suc, ◌+◌, ◌^◌, ◌%◌, ◌<◌, ◌≤◌, ◌==◌, true, ◌⊎◌, inl, inr, List, [], ◌∷◌, length, refl, sym, ◌∙◌, ap, subst, arith, ℤ, pos, neg_ℤ, ◌+ℤ◌, ◌-ℤ◌, ◌*ℤ◌, unsigned_abs, get_or-set_same, get_or-set_other, length-set}
 use Rattle.std.specs.List.{All}
 use Rattle.std.specs.Prelude.{max}
 use Rattle.std.proofs.lemmas.Bool.{cases_eq, cases_lt, cond_both, and_parts}
@@ -20,8 +20,11 @@ use Rattle.smol_geom.proofs.Ways.{low_products, high_products}
 use Rattle.smol_types.specs.Limits.{farthest}
 use Rattle.smol_meaning.specs.declared.way.Response.{Response}
 use Rattle.smol_meaning.specs.declared.way.Response.TheVariants.{Reflect, Absorb, Jump, Pass}
-use Rattle.smol_meaning.specs.Plates.{Plate, Sheet, Rectangle, Plane, is_on, is_met, goes_up, response_of, responses_met, deciding, plane_at, done_by, are_same, shifted, mirrored, sheet_axis, sheet_plane, IsOn}
-use Rattle.smol_meaning.specs.Way.{end_on}
+use Rattle.smol_meaning.specs.declared.sheet.Sheet.{Sheet}
+use Rattle.smol_meaning.specs.declared.sheet.Sheet.TheVariants.{Rectangle, Plane}
+use Rattle.smol_meaning.specs.declared.way.Effect.{Effect}
+use Rattle.smol_meaning.specs.Plates.{Plate, is_on, is_met, goes_up, effect_of, effects_met, deciding, plane_at, done_by, are_same, shifted, mirrored, sheet_axis, sheet_plane, IsOn}
+use Rattle.smol_meaning.specs.Way.{after_effect, deciding_at, end_on}
 use Rattle.smol_meaning.specs.Moves.{IsMove}
 use Rattle.smol_meaning.specs.Folds.{IsSheet, IsPlate, IsResponse, IsJump, LandsWithin, FoldFits, StandingFits}
 use Rattle.smol_meaning.proofs.Nearness.{IsNear, near_shifted, near_mirrored}
@@ -31,24 +34,29 @@ use Rattle.smol_meaning.proofs.Responses.{on_is, both_ends}
 each : (P : ℕ → Type 0) → ((j : ℕ) → j < 3 → P j) → EachAxis P
 each P h = (h 0 (omega arith), h 1 (omega arith), h 2 (omega arith))
 
--- the plate whose response decides
-pub record Decides (plates : List Plate) (from : Place) (by : Step3) (f : Fold) (m : Moment) (response : Response) : Type 0 where
+-- what decides where no plate is met: the molecule passes as it is
+abbrev pub unmet : ℕ → Effect
+unmet species = record { response = Pass; species = species }
+
+-- the plate whose effect decides
+pub record Decides (plates : List Plate) (from : Place) (by : Step3) (f : Fold) (m : Moment) (species : ℕ) (effect : Effect) : Type 0 where
   pub plate : Plate
   pub listed : Has plates plate
   pub met : is_met from by f m plate.sheet ≡ true
-  pub is : response_of plate (goes_up by f m.axis) ≡ response
+  pub is : effect_of plate (goes_up by f m.axis) species ≡ effect
 
-pub decided_by : (plates : List Plate) (from : Place) (by : Step3) (f : Fold) (m : Moment)
-    → (deciding (responses_met plates from by f m) ≡ Pass) ⊎ Decides plates from by f m (deciding (responses_met plates from by f m))
-unfolding responses_met deciding
-decided_by [] from by f m = inl refl
-decided_by (p ∷ plates) from by f m =
-    cond_both (is_met from by f m p.sheet) (response_of p (goes_up by f m.axis) ∷ responses_met plates from by f m) (responses_met plates from by f m) (λ responses. (deciding responses ≡ Pass) ⊎ Decides (p ∷ plates) from by f m (deciding responses))
-    (λ e. cond_both _ (response_of p (goes_up by f m.axis)) (deciding (responses_met plates from by f m)) (λ a. (a ≡ Pass) ⊎ Decides (p ∷ plates) from by f m a)
-    (λ l. inr (record { plate = p; listed = inl refl; met = e; is = refl })) (λ l. further (decided_by plates from by f m)))
-    (λ e. further (decided_by plates from by f m))
+pub decided_by : (plates : List Plate) (from : Place) (by : Step3) (f : Fold) (m : Moment) (species : ℕ)
+    → (deciding_at plates from by f m species ≡ unmet species) ⊎ Decides plates from by f m species (deciding_at plates from by f m species)
+unfolding effects_met deciding
+decided_by [] from by f m species = inl refl
+decided_by (p ∷ plates) from by f m species =
+    cond_both (is_met from by f m p.sheet) (effect_of p (goes_up by f m.axis) species ∷ effects_met plates from by f m species) (effects_met plates from by f m species)
+    (λ effects. (deciding species effects ≡ unmet species) ⊎ Decides (p ∷ plates) from by f m species (deciding species effects))
+    (λ e. cond_both _ (effect_of p (goes_up by f m.axis) species) (deciding_at plates from by f m species) (λ a. (a ≡ unmet species) ⊎ Decides (p ∷ plates) from by f m species a)
+    (λ l. inr (record { plate = p; listed = inl refl; met = e; is = refl })) (λ l. further (decided_by plates from by f m species)))
+    (λ e. further (decided_by plates from by f m species))
   where
-    further : {a : Response} → (a ≡ Pass) ⊎ Decides plates from by f m a → (a ≡ Pass) ⊎ Decides (p ∷ plates) from by f m a
+    further : {a : Effect} → (a ≡ unmet species) ⊎ Decides plates from by f m species a → (a ≡ unmet species) ⊎ Decides (p ∷ plates) from by f m species a
     further (inl e) = inl e
     further (inr d) = inr (record { plate = d.plate; listed = inr d.listed; met = d.met; is = d.is })
 
@@ -242,15 +250,16 @@ module _ (dims : ℕ) (from : Place) (by : Step3) (move : IsMove dims from by) w
 
       -- the fold after a moment fits
       module _ (plates : List Plate) (all : All (IsPlate dims) plates) where
-        outcome : (response : Response) (plate : Plate) → IsPlate dims plate → is_met from by f m plate.sheet ≡ true → IsResponse dims plate.sheet response → StandingFits dims from by (done_by from by f m response)
-        outcome Pass plate p_fit met fit = fits
-        outcome (Absorb n) plate p_fit met fit = tt
-        outcome Reflect plate p_fit met fit =
+        outcome : (response : Response) (next : ℕ) (plate : Plate) → IsPlate dims plate → is_met from by f m plate.sheet ≡ true → IsResponse dims plate.sheet response
+            → StandingFits dims from by (done_by from by f m response next)
+        outcome Pass next plate p_fit met fit = fits
+        outcome (Absorb n) next plate p_fit met fit = tt
+        outcome Reflect next plate p_fit met fit =
             let at = met_plane from by f m (sign_on m.axis is.axis) is plate.sheet (flat_sheet plate.sheet p_fit.sheet) met in
             let small = plane_small plate.sheet p_fit.sheet in
             mirrored_fits f (plane_at from by f m) fits.small.signs fits.small.shifts (sign_on m.axis is.axis) (even_on m.axis is.axis) (λ j l other. fits_on f fits j l)
             (subst (λ z. unsigned_abs z ≤ farthest) (sym at.1) small.0) (subst (λ z. unsigned_abs z % 2 ≡ 0) (sym at.1) small.1) refl
-        outcome (Jump shift up) plate p_fit met fit =
+        outcome (Jump shift up) next plate p_fit met fit =
             let at = met_plane from by f m (sign_on m.axis is.axis) is plate.sheet (flat_sheet plate.sheet p_fit.sheet) met in
             let on = on_is plate.sheet (true_point f from by (part_of m)) (and_parts (sheet_axis plate.sheet == m.axis) (is_on plate.sheet (true_point f from by (part_of m))) met).1 in
             let there = shifted_on shift plate.sheet p_fit.sheet on fit in
@@ -264,13 +273,13 @@ module _ (dims : ℕ) (from : Place) (by : Step3) (move : IsMove dims from by) w
             (sum_even (plane_at from by f m) (on_axis shift m.axis) (subst (λ z. unsigned_abs z % 2 ≡ 0) (sym at.1) small.1) even)
             (sum_is (on_axis f.sign m.axis *ℤ coordinate_after from by m.axis m.num) (on_axis f.shift m.axis) (on_axis shift m.axis) (on_axis (shifted f shift).shift m.axis) (shifted_at f shift m.axis is.axis)))
 
-        response_fits : (plate : Plate) → IsPlate dims plate → (up : Bool) → IsResponse dims plate.sheet (response_of plate up)
-        response_fits plate fit up = cond_both up plate.from_below plate.from_above (IsResponse dims plate.sheet) (λ u. fit.below) (λ u. fit.above)
-
-        pub outcome_fits : StandingFits dims from by (done_by from by f m (deciding (responses_met plates from by f m)))
-        outcome_fits = ⊎_elim
-            (λ (e : deciding (responses_met plates from by f m) ≡ Pass). subst (λ r. StandingFits dims from by (done_by from by f m r)) (sym e) fits)
-            (λ (d : Decides plates from by f m (deciding (responses_met plates from by f m))).
+        pub outcome_fits : (species : ℕ) → StandingFits dims from by (after_effect from by f m (deciding_at plates from by f m species))
+        outcome_fits species = ⊎_elim
+            (λ (e : effect ≡ unmet species). subst (λ one. StandingFits dims from by (after_effect from by f m one)) (sym e) fits)
+            (λ (d : Decides plates from by f m species effect).
             let p_fit = all_had (IsPlate dims) plates d.plate d.listed all in
-            outcome (deciding (responses_met plates from by f m)) d.plate p_fit d.met (subst (IsResponse dims d.plate.sheet) d.is (response_fits d.plate p_fit (goes_up by f m.axis))))
-            (decided_by plates from by f m)
+            outcome effect.response effect.species d.plate p_fit d.met (subst (λ (one : Effect). IsResponse dims d.plate.sheet one.response) d.is (p_fit.responses (goes_up by f m.axis) species)))
+            (decided_by plates from by f m species)
+          where
+            effect : Effect
+            effect = deciding_at plates from by f m species

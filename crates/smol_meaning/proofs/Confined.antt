@@ -13,7 +13,7 @@ use Rattle.smol_geom.specs.Axes.{on_axis, IsOdd, IsEven}
 use Rattle.smol_geom.specs.Fraction.{Fraction, IsNumber, whole, ◌≤ℚ◌}
 use Rattle.smol_geom.specs.Fold.{IsSign, true_point}
 use Rattle.smol_geom.specs.Moment.{part_of}
-use Rattle.smol_geom.specs.Moments.{IsMoment, ticks, moment_of, moments}
+use Rattle.smol_geom.specs.Moments.{Has, IsMoment, ticks, moment_of, moments}
 use Rattle.smol_geom.specs.Part.{scaled_way}
 use Rattle.smol_geom.specs.Rect.{IsInRange}
 use Rattle.smol_geom.proofs.Cells.{centre, ahead, IsCell, IsDouble, even_double, odd_half, in_cell, cell_through, centre_turned, signed_size, plane_folded, mirrored_start, mirrored_way, end_centre}
@@ -23,18 +23,21 @@ use Rattle.smol_geom.proofs.Folds.{folded_point}
 use Rattle.smol_geom.proofs.Integers.{sums, mul_le_ℤ, cancel_mul_ℤ}
 use Rattle.smol_geom.proofs.Lists.{has_contained, contains_had, all_had}
 use Rattle.smol_geom.proofs.Ways.{above_low, below_high, same_range}
+use Rattle.smol_meaning.specs.declared.way.Effect.{Effect}
 use Rattle.smol_meaning.specs.declared.way.Response.{Response}
 use Rattle.smol_meaning.specs.declared.way.Response.TheVariants.{Reflect, Absorb, Jump, Pass}
 use Rattle.smol_meaning.specs.declared.way.Standing.{Standing}
 use Rattle.smol_meaning.specs.declared.way.Standing.TheVariants.{Goes, Gone}
-use Rattle.smol_meaning.specs.Box.{IsInside, IsInRegion, Covers, IsFaceShut, StaysPut, IsClosed, LiesFrom, StaysInRegion, EndsInside, Confines}
+use Rattle.smol_meaning.specs.Box.{IsInside, IsInRegion, Covers, IsFaceShut, StaysAmong, StaysPut, IsClosed, LiesFrom, StaysInRegion, EndsInside, Confines}
 use Rattle.smol_meaning.specs.Folds.{IsPlate}
 use Rattle.smol_meaning.specs.Moves.{IsMove}
-use Rattle.smol_meaning.specs.Plates.{Sheet, Rectangle, Plane, Plate, is_met, is_on, goes_up, response_of, responses_met, precedence, deciding, done_by, plane_at, mirrored, sheet_axis, sheet_plane}
-use Rattle.smol_meaning.specs.Way.{after_moment, after_moments, end_on, ended, straight, way_among}
-use Rattle.smol_meaning.proofs.Bounds.{used, flat_sheet, plane_small}
+use Rattle.smol_meaning.specs.declared.sheet.Sheet.{Sheet}
+use Rattle.smol_meaning.specs.declared.sheet.Sheet.TheVariants.{Rectangle, Plane}
+use Rattle.smol_meaning.specs.Plates.{Plate, is_met, is_on, goes_up, effect_of, response_of, precedence, done_by, plane_at, mirrored, sheet_axis, sheet_plane}
+use Rattle.smol_meaning.specs.Way.{after_moment, after_moments, deciding_at, end_on, ended, straight, way_among}
+use Rattle.smol_meaning.proofs.Bounds.{Decides, decided_by, flat_sheet, plane_small, unmet, used}
 use Rattle.smol_meaning.proofs.Planes.{IsFlat, start_on, way_on, point_is, plane_met, between_plane}
-use Rattle.smol_meaning.proofs.Responses.{reflect_decides, deciding_put, on_is, holds_from}
+use Rattle.smol_meaning.proofs.Responses.{reflect_decides, on_is, holds_from}
 
 -- after the counted ticks the molecule is in a cell within the box, on each axis
 pub record Inside (box : Cuboid) (from : Place) (by : Step3) (f : Fold) (c : ℕ → ℕ) : Type 0 where
@@ -43,9 +46,10 @@ pub record Inside (box : Cuboid) (from : Place) (by : Step3) (f : Fold) (c : ℕ
   pub sign_count : length f.sign ≡ 3
   pub shift_count : length f.shift ≡ 3
 
-abbrev pub StaysInside : Cuboid → Place → Step3 → (ℕ → ℕ) → Standing → Type 0
-StaysInside box from by c (Goes f) = Inside box from by f c
-StaysInside box from by c (Gone n) = Unit {0}
+-- and is of a species among these
+abbrev pub StaysInside : (ℕ → Bool) → Cuboid → Place → Step3 → (ℕ → ℕ) → Standing → Type 0
+StaysInside among box from by c (Goes f species) = Inside box from by f c × (among species ≡ true)
+StaysInside among box from by c (Gone n) = Unit {0}
 
 module _ (box : Cuboid) (from : Place) (by : Step3) (odd : (j : ℕ) → j < 3 → IsOdd (on_axis from.0 j)) (f : Fold) (c : ℕ → ℕ) (m : Moment) (ms : List Moment) (left : Left from by odd c (m ∷ ms)) (inside : Inside box from by f c) where
   bounds : (j : ℕ) → j < 3
@@ -120,44 +124,53 @@ module _ (box : Cuboid) (from : Place) (by : Step3) (odd : (j : ℕ) → j < 3 �
           (λ (other : j ≡ m.axis → ⊥). on_other j l other)
           (cases_eq j m.axis)
 
-  module _ (dims : ℕ) (move : IsMove dims from by) (plates : List Plate) (all : All (IsPlate dims) plates) (closed : IsClosed dims plates box) where
+  module _ (dims : ℕ) (move : IsMove dims from by) (plates : List Plate) (among : ℕ → Bool) (all : All (IsPlate dims) plates) (closed : IsClosed dims plates among box) (species : ℕ) (kin : among species ≡ true) where
     in_use : m.axis < dims
     in_use = ⊎_elim (λ (l : m.axis < dims). l) (λ (beyond : dims ≤ m.axis). absurd (used dims from by move m (m_is from by odd c m ms left) beyond)) (cases_lt m.axis dims)
 
     -- the planes of the faces across the axis are even
-    face_even : (plane : ℤ) (upper : Bool) → IsFaceShut plates box m.axis plane upper → IsDouble plane
+    face_even : (plane : ℤ) (upper : Bool) → IsFaceShut plates species box m.axis plane upper → IsDouble plane
     face_even plane upper face =
         let fit = all_had (IsPlate dims) plates face.plate (has_contained plates face.plate face.listed) all in
         even_double plane (subst (λ z. unsigned_abs z % 2 ≡ 0) face.at_plane (plane_small face.plate.sheet fit.sheet).1)
 
-    -- no response moves the molecule elsewhere
-    puts : StaysPut (deciding (responses_met plates from by f m))
-    puts = deciding_put from by f m plates (λ p h met.
-        let on = on_is p.sheet (true_point f from by (part_of m)) (and_parts (sheet_axis p.sheet == m.axis) (is_on p.sheet (true_point f from by (part_of m))) met).1 in
-        let both = closed.quiet p (contains_had plates p h) (true_point f from by (part_of m)) true_in_region on in
-        cond_both (goes_up by f m.axis) p.from_below p.from_above StaysPut (λ e. both.0) (λ e. both.1))
+    -- what decides
+    abbrev effect : Effect
+    effect = deciding_at plates from by f m species
+
+    -- it moves the molecule nowhere else, and makes one of the species among these of it
+    stays_among : StaysAmong among effect
+    stays_among = ⊎_elim
+        (λ (e : effect ≡ unmet species). subst (StaysAmong among) (sym e) (record { put = tt; kin = kin }))
+        (λ (d : Decides plates from by f m species effect). subst (StaysAmong among) d.is (by_plate d.plate d.listed d.met))
+        (decided_by plates from by f m species)
+      where
+        by_plate : (p : Plate) → Has plates p → is_met from by f m p.sheet ≡ true → StaysAmong among (effect_of p (goes_up by f m.axis) species)
+        by_plate p listed met =
+            let on = on_is p.sheet (true_point f from by (part_of m)) (and_parts (sheet_axis p.sheet == m.axis) (is_on p.sheet (true_point f from by (part_of m))) met).1 in
+            closed.quiet p (contains_had plates p listed) (true_point f from by (part_of m)) true_in_region on species kin (goes_up by f m.axis)
 
     -- where a face is at the plane of the moment, and the motion leads outwards, the motion is reflected
-    turns_at : (up : Bool) (plane : ℤ) → goes_up by f m.axis ≡ up → IsFaceShut plates box m.axis plane up
-        → ahead (start_on f from m.axis) (way_on f by m.axis) (c m.axis) ≡ plane → deciding (responses_met plates from by f m) ≡ Reflect
+    turns_at : (up : Bool) (plane : ℤ) → goes_up by f m.axis ≡ up → IsFaceShut plates species box m.axis plane up
+        → ahead (start_on f from m.axis) (way_on f by m.axis) (c m.axis) ≡ plane → effect.response ≡ Reflect
     turns_at up plane dir face there =
         let listed = has_contained plates face.plate face.listed in
         let fit = all_had (IsPlate dims) plates face.plate listed all in
-        reflect_decides from by f m plates face.plate listed
+        reflect_decides from by f m species plates face.plate listed
         (face_met face.plate.sheet (flat_sheet face.plate.sheet fit.sheet) face.across (face.at_plane ∙ sym there ∙ sym plane_is) face.covers)
-        (ap (response_of face.plate) dir ∙ face.reflects)
+        (ap (λ x. response_of face.plate x species) dir ∙ face.reflects)
 
     -- where the motion isn't reflected, it goes on within the box
-    goes_through : (deciding (responses_met plates from by f m) ≡ Reflect → ⊥) → Inside box from by f (more c m.axis)
+    goes_through : (effect.response ≡ Reflect → ⊥) → Inside box from by f (more c m.axis)
     goes_through not_turned =
         record {
           cells = λ j l. ⊎_elim
               (λ (same : j ≡ m.axis). rw (eq-eqb j m.axis same)
-              (cell_through (on_axis box.low j) (on_axis box.high j) (start_on f from j) (way_on f by j) (c j) (subst (λ k. IsDouble (on_axis box.low k)) (sym same) (face_even (on_axis box.low m.axis) false (closed.lower m.axis in_use))) (subst (λ k. IsDouble (on_axis box.high k)) (sym same) (face_even (on_axis box.high m.axis) true (closed.upper m.axis in_use))) (inside.cells j l)
-              (λ up at. not_turned (subst (λ k. int_lt (pos 0) (way_on f by k) ≡ true → ahead (start_on f from k) (way_on f by k) (c k) ≡ on_axis box.high k → deciding (responses_met plates from by f m) ≡ Reflect) (sym same)
-              (λ u a. turns_at true (on_axis box.high m.axis) u (closed.upper m.axis in_use) a) up at))
-              (λ down at. not_turned (subst (λ k. int_lt (pos 0) (way_on f by k) ≡ false → ahead (start_on f from k) (way_on f by k) (c k) ≡ on_axis box.low k → deciding (responses_met plates from by f m) ≡ Reflect) (sym same)
-              (λ u a. turns_at false (on_axis box.low m.axis) u (closed.lower m.axis in_use) a) down at))))
+              (cell_through (on_axis box.low j) (on_axis box.high j) (start_on f from j) (way_on f by j) (c j) (subst (λ k. IsDouble (on_axis box.low k)) (sym same) (face_even (on_axis box.low m.axis) false (closed.lower species kin m.axis in_use))) (subst (λ k. IsDouble (on_axis box.high k)) (sym same) (face_even (on_axis box.high m.axis) true (closed.upper species kin m.axis in_use))) (inside.cells j l)
+              (λ up at. not_turned (subst (λ k. int_lt (pos 0) (way_on f by k) ≡ true → ahead (start_on f from k) (way_on f by k) (c k) ≡ on_axis box.high k → effect.response ≡ Reflect) (sym same)
+              (λ u a. turns_at true (on_axis box.high m.axis) u (closed.upper species kin m.axis in_use) a) up at))
+              (λ down at. not_turned (subst (λ k. int_lt (pos 0) (way_on f by k) ≡ false → ahead (start_on f from k) (way_on f by k) (c k) ≡ on_axis box.low k → effect.response ≡ Reflect) (sym same)
+              (λ u a. turns_at false (on_axis box.low m.axis) u (closed.lower species kin m.axis in_use) a) down at))))
               (λ (other : j ≡ m.axis → ⊥). rw (ne_eqb j m.axis other) (inside.cells j l))
               (cases_eq j m.axis);
           signs = inside.signs;
@@ -217,14 +230,14 @@ module _ (box : Cuboid) (from : Place) (by : Step3) (odd : (j : ℕ) → j < 3 �
         }
 
     -- a moment keeps it inside
-    pub stays_inside : StaysInside box from by (more c m.axis) (after_moment plates from by (Goes f) m)
-    stays_inside = go (deciding (responses_met plates from by f m)) refl puts
+    pub stays_inside : StaysInside among box from by (more c m.axis) (after_moment plates from by (Goes f species) m)
+    stays_inside = go effect.response effect.species refl stays_among.put stays_among.kin
       where
-        go : (response : Response) → deciding (responses_met plates from by f m) ≡ response → StaysPut response → StaysInside box from by (more c m.axis) (done_by from by f m response)
-        go Reflect e quiet = turns_back
-        go (Absorb n) e quiet = tt
-        go (Jump by_ up) e quiet = absurd quiet
-        go Pass e quiet = goes_through (λ r. no (ap precedence (sym e ∙ r)))
+        go : (response : Response) (next : ℕ) → effect.response ≡ response → StaysPut response → among next ≡ true → StaysInside among box from by (more c m.axis) (done_by from by f m response next)
+        go Reflect next e quiet is = (turns_back, is)
+        go (Absorb n) next e quiet is = tt
+        go (Jump by_ up) next e quiet is = absurd quiet
+        go Pass next e quiet is = (goes_through (λ r. no (ap precedence (sym e ∙ r))), is)
           where
             no : precedence Pass ≡ precedence Reflect → ⊥
             no h = omega (arith, h)
@@ -278,13 +291,13 @@ odd_on dims from by move j l = at_axis (λ k. IsOdd (on_axis from.0 k)) j l move
 
 -- the end of a fold is inside where it is on each axis
 inside_end : (box : Cuboid) (from : Place) (by : Step3) (f : Fold) → ((j : ℕ) → j < 3 → (on_axis box.low j <ℤ end_on from by f j) × (end_on from by f j <ℤ on_axis box.high j))
-    → EndsInside box (ended from by (Goes f))
-inside_end box from by f on zero l = on 0 l
-inside_end box from by f on (suc zero) l = on 1 l
-inside_end box from by f on (suc (suc zero)) l = on 2 l
-inside_end box from by f on (suc (suc (suc axis))) l = absurd (omega arith)
+    → (species : ℕ) → EndsInside box (ended from by (Goes f species))
+inside_end box from by f on species zero l = on 0 l
+inside_end box from by f on species (suc zero) l = on 1 l
+inside_end box from by f on species (suc (suc zero)) l = on 2 l
+inside_end box from by f on species (suc (suc (suc axis))) l = absurd (omega arith)
 
-module _ (dims : ℕ) (plates : List Plate) (box : Cuboid) (from : Place) (by : Step3) (move : IsMove dims from by) (all : All (IsPlate dims) plates) (closed : IsClosed dims plates box) where
+module _ (dims : ℕ) (plates : List Plate) (among : ℕ → Bool) (box : Cuboid) (from : Place) (by : Step3) (move : IsMove dims from by) (all : All (IsPlate dims) plates) (closed : IsClosed dims plates among box) where
   odd : (j : ℕ) → j < 3 → IsOdd (on_axis from.0 j)
   odd j l = odd_on dims from by move j l
 
@@ -337,27 +350,27 @@ module _ (dims : ℕ) (plates : List Plate) (box : Cuboid) (from : Place) (by : 
   passed_rest c m ms left j l (inr other) = rw (ne_eqb j m.axis other) (not_behind from by odd c m ms left j l)
 
   -- the whole way stays in the region
-  in_region : (s : Standing) (c : ℕ → ℕ) (ln ld : ℕ) (ms : List Moment) → 0 < ld → Left from by odd c ms → HasPassed c ln ld → StaysInside box from by c s
+  in_region : (s : Standing) (c : ℕ → ℕ) (ln ld : ℕ) (ms : List Moment) → 0 < ld → Left from by odd c ms → HasPassed c ln ld → StaysInside among box from by c s
       → StaysInRegion plates box from by (record { num = pos ln; den = ld }) s ms
   in_region (Gone n) c ln ld ms some left passed inside = tt
-  in_region (Goes f) c ln ld [] some left passed inside = λ t lies.
+  in_region (Goes f species) c ln ld [] some left passed inside = λ t lies.
       let is = num_of ln ld (whole (pos 1)) t some lies in
       let above = above_num ln ld t.num (unsigned_abs t.num) t.den is lies.above in
       let below = below_num 1 1 t.num (unsigned_abs t.num) t.den is lies.below in
-      in_region_at box from by f c inside t lies.number (unsigned_abs t.num) is
+      in_region_at box from by f c inside.0 t lies.number (unsigned_abs t.num) is
       (λ j l. behind_later (2 * c j) ln ld (unsigned_abs t.num) t.den (ticks by j) some (passed j l) above)
       (λ j l. ahead_end (2 * c j) (unsigned_abs t.num) t.den (ticks by j) (omega (arith, all_made c left j l)) (omega (arith, below)))
-  in_region (Goes f) c ln ld (m ∷ ms) some left passed inside = (
+  in_region (Goes f species) c ln ld (m ∷ ms) some left passed inside = (
     λ t lies.
         let is = num_of ln ld (part_of m) t some lies in
         let above = above_num ln ld t.num (unsigned_abs t.num) t.den is lies.above in
         let below = below_num m.num m.den t.num (unsigned_abs t.num) t.den is lies.below in
-        in_region_at box from by f c inside t lies.number (unsigned_abs t.num) is
+        in_region_at box from by f c inside.0 t lies.number (unsigned_abs t.num) is
         (λ j l. behind_later (2 * c j) ln ld (unsigned_abs t.num) t.den (ticks by j) some (passed j l) above)
         (λ j l. ahead_earlier (2 * c j) m.num m.den (unsigned_abs t.num) t.den (ticks by j) (den_above m (m_is from by odd c m ms left)) (not_ahead from by odd c m ms left j l) below),
-    in_region (after_moment plates from by (Goes f) m) (more c m.axis) m.num m.den ms (den_above m (m_is from by odd c m ms left)) (rest_left from by odd c m ms left)
+    in_region (after_moment plates from by (Goes f species) m) (more c m.axis) m.num m.den ms (den_above m (m_is from by odd c m ms left)) (rest_left from by odd c m ms left)
         (λ j l. passed_rest c m ms left j l (cases_eq j m.axis))
-        (stays_inside box from by odd f c m ms left inside dims move plates all closed),
+        (stays_inside box from by odd f c m ms left inside.0 dims move plates among all closed species inside.1),
   )
 
   gone_ends : (n : ℕ) (ms : List Moment) → EndsInside box (ended from by (after_moments plates from by (Gone n) ms))
@@ -370,17 +383,17 @@ module _ (dims : ℕ) (plates : List Plate) (box : Cuboid) (from : Place) (by : 
       end_centre (on_axis f.sign j) (on_axis from.0 j) (on_axis by.0 j) (on_axis f.shift j) (c j)
       (signed_size (on_axis f.sign j) (on_axis by.0 j) (inside.signs j l) ∙ all_made c left j l)
 
-  ends_inside : (s : Standing) (c : ℕ → ℕ) (ms : List Moment) → Left from by odd c ms → StaysInside box from by c s → EndsInside box (ended from by (after_moments plates from by s ms))
+  ends_inside : (s : Standing) (c : ℕ → ℕ) (ms : List Moment) → Left from by odd c ms → StaysInside among box from by c s → EndsInside box (ended from by (after_moments plates from by s ms))
   unfolding after_moments
   ends_inside (Gone n) c ms left inside = gone_ends n ms
-  ends_inside (Goes f) c [] left inside =
+  ends_inside (Goes f species) c [] left inside =
       inside_end box from by f (λ j l.
-      let is = end_is f c left inside j l in
-      let cell = inside.cells j l in
-      (subst (λ z. on_axis box.low j <ℤ z) (sym is) cell.above, subst (λ z. z <ℤ on_axis box.high j) (sym is) cell.below))
-  ends_inside (Goes f) c (m ∷ ms) left inside =
-      ends_inside (after_moment plates from by (Goes f) m) (more c m.axis) ms (rest_left from by odd c m ms left)
-      (stays_inside box from by odd f c m ms left inside dims move plates all closed)
+      let is = end_is f c left inside.0 j l in
+      let cell = inside.0.cells j l in
+      (subst (λ z. on_axis box.low j <ℤ z) (sym is) cell.above, subst (λ z. z <ℤ on_axis box.high j) (sym is) cell.below)) species
+  ends_inside (Goes f species) c (m ∷ ms) left inside =
+      ends_inside (after_moment plates from by (Goes f species) m) (more c m.axis) ms (rest_left from by odd c m ms left)
+      (stays_inside box from by odd f c m ms left inside.0 dims move plates among all closed species inside.1)
 
   -- a way that starts inside has each true point in the closed region, and ends inside
   starts : Left from by odd (λ _. 0) (moments from by)
@@ -416,11 +429,11 @@ module _ (dims : ℕ) (plates : List Plate) (box : Cuboid) (from : Place) (by : 
   cell_of : (low high x : ℤ) → low <ℤ x → x <ℤ high → unsigned_abs x % 2 ≡ 1 → IsCell low high x
   cell_of low high x above below odd = let h = odd_half x odd in record { above = above; below = below; half = h.0; odd = h.1 }
 
-  pub confined : IsInside box from → Confines plates from by box
+  pub confined : (species : ℕ) → among species ≡ true → IsInside box from → Confines plates species from by box
   unfolding way_among
-  confined start =
+  confined species kin start =
       let inside = at_start (λ j l. let at = start j l in cell_of (on_axis box.low j) (on_axis box.high j) (on_axis from.0 j) at.0 at.1 (odd j l)) in
       record {
-        region = in_region (Goes straight) (λ _. 0) 0 1 (moments from by) (omega arith) starts (λ j l. omega arith) inside;
-        end = ends_inside (Goes straight) (λ _. 0) (moments from by) starts inside;
+        region = in_region (Goes straight species) (λ _. 0) 0 1 (moments from by) (omega arith) starts (λ j l. omega arith) (inside, kin);
+        end = ends_inside (Goes straight species) (λ _. 0) (moments from by) starts (inside, kin);
       }

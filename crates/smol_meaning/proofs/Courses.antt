@@ -241,8 +241,8 @@ run_is_kept draft seed run sound ran = run_keeps draft seed (opening_state draft
 
 -- what starts inside a closed reflecting box stays in it on each way of a run
 pub run_confines : (draft : Draft) (seed : ℕ) (run : Stretch) → IsSound draft → run_of draft seed ≡ Ok run
-    → All (λ (move : Move). (box : Cuboid) → IsClosed draft.dims (plates_of draft move.species) box → IsInside box move.from
-    → Confines (plates_of draft move.species) move.from move.by box) run.moves
-run_confines draft seed run sound ran = λ i d within box closed inside.
-    confined draft.dims (plates_of draft (get_or run.moves i d).species) box (get_or run.moves i d).from (get_or run.moves i d).by
-    ((run_is_kept draft seed run sound ran).1 i d within).goes (plates_fit draft (get_or run.moves i d).species sound) closed inside
+    → All (λ (move : Move). (among : ℕ → Bool) (box : Cuboid) → among move.species ≡ true → IsClosed draft.dims (plates_of draft) among box
+    → IsInside box move.from → Confines (plates_of draft) move.species move.from move.by box) run.moves
+run_confines draft seed run sound ran = λ i d within among box kin closed inside.
+    confined draft.dims (plates_of draft) among box (get_or run.moves i d).from (get_or run.moves i d).by
+    ((run_is_kept draft seed run sound ran).1 i d within).goes (plates_fit draft sound) closed (get_or run.moves i d).species kin inside

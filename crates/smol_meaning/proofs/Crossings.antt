@@ -13,8 +13,8 @@ use Rattle.smol_meaning.specs.declared.way.Standing.{Standing}
 use Rattle.smol_meaning.specs.declared.way.Standing.TheVariants.{Goes, Gone}
 use Rattle.smol_geom.specs.Moments.{Has, IsMoment}
 use Rattle.smol_geom.specs.Moments.{moments}
-use Rattle.smol_meaning.specs.Plates.{Plate, goes_up, response_of, responses_met, deciding, done_by, plane_at, mirrored, shifted, are_same}
-use Rattle.smol_meaning.specs.Way.{after_moment, straight}
+use Rattle.smol_meaning.specs.Plates.{Plate, goes_up, response_of, done_by, plane_at, mirrored, shifted, are_same}
+use Rattle.smol_meaning.specs.Way.{after_moment, deciding_at, straight}
 use Rattle.std.specs.Prelude.{Contains}
 use Rattle.smol_geom.proofs.Lists.{has_contained}
 use Rattle.smol_meaning.specs.Crossing.{Crosses, CrossesNoneAt, CrossesNone}
@@ -29,7 +29,7 @@ pub record HasSigns (f : Fold) : Type 0 where
   pub shift_count : length f.shift ≡ 3
 
 abbrev pub StandingHasSigns : Standing → Type 0
-StandingHasSigns (Goes f) = HasSigns f
+StandingHasSigns (Goes f species) = HasSigns f
 StandingHasSigns (Gone n) = Unit {0}
 
 turned_sign : (s : ℤ) → IsSign s → IsSign (neg_ℤ s)
@@ -51,14 +51,15 @@ pub moved_signs : (f : Fold) (by : List ℤ) → HasSigns f → HasSigns (shifte
 moved_signs f by h =
     record { signs = h.signs; sign_count = h.sign_count; shift_count = refl }
 
-pub keeps_signs : (from : Place) (by : Step3) (f : Fold) (m : Moment) → m.axis < 3 → HasSigns f → (response : Response) → StandingHasSigns (done_by from by f m response)
-keeps_signs from by f m l h Reflect = mirrored_signs f m.axis (plane_at from by f m) l h
-keeps_signs from by f m l h (Absorb n) = tt
-keeps_signs from by f m l h (Jump shift up) =
+pub keeps_signs : (from : Place) (by : Step3) (f : Fold) (m : Moment) → m.axis < 3 → HasSigns f → (response : Response) (species : ℕ)
+    → StandingHasSigns (done_by from by f m response species)
+keeps_signs from by f m l h Reflect species = mirrored_signs f m.axis (plane_at from by f m) l h
+keeps_signs from by f m l h (Absorb n) species = tt
+keeps_signs from by f m l h (Jump shift up) species =
     cond_both (are_same (goes_up by f m.axis) up) (shifted f shift) (mirrored (shifted f shift) m.axis (plane_at from by f m +ℤ on_axis shift m.axis)) HasSigns
     (λ e. moved_signs f shift h)
     (λ e. mirrored_signs (shifted f shift) m.axis (plane_at from by f m +ℤ on_axis shift m.axis) l (moved_signs f shift h))
-keeps_signs from by f m l h Pass = h
+keeps_signs from by f m l h Pass species = h
 
 -- a turned way points the other way
 turns : (w : ℤ) → 0 < unsigned_abs w → int_lt (pos 0) (neg_ℤ w) ≡ int_lt (pos 0) w → ⊥
@@ -68,21 +69,25 @@ turns (negsuc k) m e = both_ways _ e (lt-ltb 0 (suc k) (omega arith))
 
 -- what two standings that go on go on with
 fold_of : Fold → Standing → Fold
-fold_of other (Goes f) = f
+fold_of other (Goes f species) = f
 fold_of other (Gone n) = other
 
 module _ (plates : List Plate) (from : Place) (by : Step3) where
   -- where a plate is met that reflects, the way doesn't cross it
-  pub crosses_not : (f : Fold) (m : Moment) → IsMoment from by m → HasSigns f → (plate : Plate) → Contains plates plate → response_of plate (goes_up by f m.axis) ≡ Reflect
-      → (g : Fold) → after_moment plates from by (Goes f) m ≡ Goes g → Crosses from by f m g plate → ⊥
+  pub crosses_not : (f : Fold) (species : ℕ) (m : Moment) → IsMoment from by m → HasSigns f → (plate : Plate) → Contains plates plate
+      → response_of plate (goes_up by f m.axis) species ≡ Reflect → (g : Fold) (next : ℕ) → after_moment plates from by (Goes f species) m ≡ Goes g next
+      → Crosses from by f m g plate → ⊥
   unfolding fold_of
-  crosses_not f m is h plate listed reflects g goes crosses =
+  crosses_not f species m is h plate listed reflects g next goes crosses =
       turns (on_axis f.sign m.axis *ℤ on_axis by.0 m.axis)
       (subst (λ n. 0 < n) (sym (signed_size (on_axis f.sign m.axis) (on_axis by.0 m.axis) (h.signs m.axis is.axis))) (omega (arith, is.begun, is.unfinished, is.den)))
       (sym turned ∙ crosses.goes_on)
     where
       g_is : mirrored f m.axis (plane_at from by f m) ≡ g
-      g_is = ap (fold_of f) (ap (done_by from by f m) (sym (reflect_decides from by f m plates plate (has_contained plates plate listed) crosses.met reflects)) ∙ goes)
+      g_is =
+          ap (fold_of f)
+          (ap (λ response. done_by from by f m response (deciding_at plates from by f m species).species)
+          (sym (reflect_decides from by f m species plates plate (has_contained plates plate listed) crosses.met reflects)) ∙ goes)
 
       turned : goes_up by g m.axis ≡ int_lt (pos 0) (neg_ℤ (on_axis f.sign m.axis *ℤ on_axis by.0 m.axis))
       turned =
@@ -94,20 +99,20 @@ module _ (plates : List Plate) (from : Place) (by : Step3) where
   crosses_none_of : (s : Standing) (ms : List Moment) → ((m : Moment) → Has ms m → IsMoment from by m) → StandingHasSigns s → CrossesNoneAt plates from by s ms
   crosses_none_of s [] are h = tt
   crosses_none_of (Gone n) (m ∷ ms) are h = tt
-  crosses_none_of (Goes f) (m ∷ ms) are h = (
-    crosses_not f m (are m (inl refl)) h,
-    crosses_none_of (after_moment plates from by (Goes f) m) ms (λ n k. are n (inr k))
-        (keeps_signs from by f m (are m (inl refl)).axis h (deciding (responses_met plates from by f m))),
+  crosses_none_of (Goes f species) (m ∷ ms) are h = (
+    crosses_not f species m (are m (inl refl)) h,
+    crosses_none_of (after_moment plates from by (Goes f species) m) ms (λ n k. are n (inr k))
+        (let effect = deciding_at plates from by f m species in keeps_signs from by f m (are m (inl refl)).axis h effect.response effect.species),
   )
 
-  pub crosses_none : CrossesNone plates from by
-  unfolding CrossesNone
-  crosses_none =
-      crosses_none_of (Goes straight) (moments from by) (of_move from by)
-      (record { signs = signs; sign_count = refl; shift_count = refl })
-    where
-      signs : (k : ℕ) → k < 3 → IsSign (on_axis straight.sign k)
-      signs zero h = inl refl
-      signs (suc zero) h = inl refl
-      signs (suc (suc zero)) h = inl refl
-      signs (suc (suc (suc k))) h = absurd (omega arith)
+pub crosses_none : (plates : List Plate) (species : ℕ) (from : Place) (by : Step3) → CrossesNone plates species from by
+unfolding CrossesNone
+crosses_none plates species from by =
+    crosses_none_of plates from by (Goes straight species) (moments from by) (of_move from by)
+    (record { signs = signs; sign_count = refl; shift_count = refl })
+  where
+    signs : (k : ℕ) → k < 3 → IsSign (on_axis straight.sign k)
+    signs zero h = inl refl
+    signs (suc zero) h = inl refl
+    signs (suc (suc zero)) h = inl refl
+    signs (suc (suc (suc k))) h = absurd (omega arith)

@@ -65,7 +65,7 @@ odd_end s a d h sign odd even even_h = ⊎_elim
 
 -- the end of the whole move is such an end under a fold that is within the bounds
 end_fits : (dims : ℕ) (from : Place) (by : Step3) (standing : Standing) → IsMove dims from by → StandingFits dims from by standing → EndsWithin dims from by (ended from by standing)
-end_fits dims from by (Goes f) move fits =
+end_fits dims from by (Goes f species) move fits =
     record {
       count = refl;
       odd = (
@@ -84,19 +84,19 @@ module _ (dims : ℕ) (plates : List Plate) (from : Place) (by : Step3) (all : A
   unfolding after_moments
   fits_after standing [] are fits = fits
   fits_after (Gone number) (m ∷ ms) are fits = fits_after (Gone number) ms (λ n h. are n (inr h)) tt
-  fits_after (Goes f) (m ∷ ms) are fits =
-      fits_after (after_moment plates from by (Goes f) m) ms (λ n h. are n (inr h)) (outcome_fits dims from by move m (are m (inl refl)) f fits plates all)
+  fits_after (Goes f species) (m ∷ ms) are fits =
+      fits_after (after_moment plates from by (Goes f species) m) ms (λ n h. are n (inr h)) (outcome_fits dims from by move m (are m (inl refl)) f fits plates all species)
 
-  pub ends_within : EndsWithin dims from by (way_among plates from by)
+  pub ends_within : (species : ℕ) → EndsWithin dims from by (way_among plates species from by)
   unfolding way_among
-  ends_within =
-      end_fits dims from by (after_moments plates from by (Goes straight) (moments from by)) move
-      (fits_after (Goes straight) (moments from by) (of_move from by) (straight_fits dims from by move))
+  ends_within species =
+      end_fits dims from by (after_moments plates from by (Goes straight species) (moments from by)) move
+      (fits_after (Goes straight species) (moments from by) (of_move from by) (straight_fits dims from by move))
 
 pub way_ends_within : (draft : Draft) (species : ℕ) (from : Place) (by : Step3) → IsSound draft → IsMove draft.dims from by
     → EndsWithin draft.dims from by (way draft species from by)
 way_ends_within draft species from by sound move =
-    ends_within draft.dims (plates_of draft species) from by (plates_fit draft species sound) move
+    ends_within draft.dims (plates_of draft) from by (plates_fit draft sound) move species
 
 -- so coordinates that were within some size are within this size and that of the displacement
 coordinate_grows : (x y d : ℤ) (size most : ℕ) → unsigned_abs y ≤ max (unsigned_abs x) farthest + unsigned_abs d → unsigned_abs x ≤ size → farthest ≤ size → unsigned_abs d ≤ most → unsigned_abs y ≤ size + most

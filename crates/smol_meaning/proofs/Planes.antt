@@ -19,7 +19,9 @@ use Rattle.smol_geom.proofs.EachAxis.{at_axis}
 use Rattle.smol_geom.proofs.Folds.{folded_point}
 use Rattle.smol_geom.proofs.Integers.{sums, mul_le_ℤ, cancel_mul_ℤ}
 use Rattle.smol_geom.proofs.Ways.{above_low, below_high, low_products, high_products}
-use Rattle.smol_meaning.specs.Plates.{Sheet, Rectangle, Plane, is_between, is_in_rect, is_met, plane_at, sheet_axis, sheet_plane}
+use Rattle.smol_meaning.specs.declared.sheet.Sheet.{Sheet}
+use Rattle.smol_meaning.specs.declared.sheet.Sheet.TheVariants.{Rectangle, Plane}
+use Rattle.smol_meaning.specs.Plates.{is_between, is_in_rect, is_met, plane_at, sheet_axis, sheet_plane}
 use Rattle.smol_meaning.proofs.Responses.{holds_is, between_is, between_from}
 
 -- the folded start and the folded way on an axis

@@ -1,5 +1,5 @@
 -- What decides among the plates that are met.
-use Rattle.std.proofs.Common.{⊎_elim, ◌≡◌, ℕ, ◌≤◌, true, inl, inr, List, [], ◌∷◌, refl, ◌∙◌, ap, arith, ℤ, pos, ◌≤ℤ◌, ◌*ℤ◌, int_le}
+use Rattle.std.proofs.Common.{⊎_elim, ◌≡◌, ℕ, nat_le, true, inl, inr, List, [], ◌∷◌, refl, sym, ◌∙◌, ap, arith, ℤ, pos, ◌≤ℤ◌, ◌*ℤ◌, int_le}
 use Rattle.std.proofs.lemmas.Bool.{cases_Bool, cond_both, le-leb, and_from, and_parts}
 use Rattle.std.proofs.lemmas.Int.{ints}
 use borrow.Author.Differences.{le-true, le-false}
@@ -12,10 +12,13 @@ use Rattle.smol_geom.specs.Fraction.{Fraction, whole, ◌≤ℚ◌}
 use Rattle.smol_geom.specs.Rect.{HoldsPoint}
 use Rattle.smol_meaning.specs.declared.way.Response.{Response}
 use Rattle.smol_meaning.specs.declared.way.Response.TheVariants.{Reflect, Absorb, Jump, Pass}
-use Rattle.smol_meaning.specs.Plates.{Plate, Sheet, Rectangle, Plane, IsOn, is_between, is_in_rect, is_on, is_met, goes_up, response_of, responses_met, first_of, precedence, deciding}
+use Rattle.smol_meaning.specs.declared.sheet.Sheet.{Sheet}
+use Rattle.smol_meaning.specs.declared.sheet.Sheet.TheVariants.{Rectangle, Plane}
+use Rattle.smol_meaning.specs.declared.way.Effect.{Effect}
+use Rattle.smol_meaning.specs.Plates.{Plate, IsOn, is_between, is_in_rect, is_on, is_met, goes_up, effect_of, response_of, effects_met, first_of, precedence, deciding}
+use Rattle.smol_meaning.specs.Way.{deciding_at}
 use Rattle.smol_geom.specs.Moments.{Has}
 use Rattle.smol_geom.proofs.Integers.{sums}
-use Rattle.smol_meaning.specs.Box.{StaysPut}
 
 at_most_from : (a b : ℤ) → a ≤ℤ b → int_le a b ≡ true
 at_most_from a b h = ⊎_elim (λ e. e) (λ e. let no = le-false a b e in absurd (omega (arith, ints))) (cases_Bool (int_le a b))
@@ -65,41 +68,31 @@ on_is (Plane axis plane) point e =
     one_number plane (point axis).num (pos (point axis).den) ends.0 ends.1
 
 -- a response of the least precedence reflects
-least : (response : Response) → precedence response ≤ 0 → response ≡ Reflect
-least Reflect h = refl
-least (Absorb n) h = absurd (omega arith)
-least (Jump by up) h = absurd (omega arith)
-least Pass h = absurd (omega arith)
+least : (response : Response) → nat_le (precedence response) 0 ≡ true → response ≡ Reflect
+least Reflect l = refl
+least (Absorb n) l = absurd (cc l)
+least (Jump by up) l = absurd (cc l)
+least Pass l = absurd (cc l)
 
-module _ (from : Place) (by : Step3) (f : Fold) (m : Moment) where
+-- an effect that reflects decides before any other, whatever it makes of the species
+first_reflects : (effect later : Effect) → later.response ≡ Reflect → (first_of effect later).response ≡ Reflect
+first_reflects effect later reflects =
+    cond_both (nat_le (precedence effect.response) (precedence later.response)) effect later (λ (one : Effect). one.response ≡ Reflect)
+    (λ l. least effect.response (ap (λ r. nat_le (precedence effect.response) (precedence r)) (sym reflects) ∙ l))
+    (λ l. reflects)
+
+module _ (from : Place) (by : Step3) (f : Fold) (m : Moment) (species : ℕ) where
   -- where a plate is met that reflects, it decides: the motion turns back
   pub reflect_decides : (plates : List Plate) (plate : Plate) → Has plates plate → is_met from by f m plate.sheet ≡ true
-      → response_of plate (goes_up by f m.axis) ≡ Reflect → deciding (responses_met plates from by f m) ≡ Reflect
-  unfolding deciding responses_met
+      → response_of plate (goes_up by f m.axis) species ≡ Reflect → (deciding_at plates from by f m species).response ≡ Reflect
+  unfolding deciding effects_met
   reflect_decides [] plate h met reflects = absurd h
   reflect_decides (p ∷ plates) plate (inl same) met reflects =
       let here : is_met from by f m p.sheet ≡ true = ap (λ (x : Plate). is_met from by f m x.sheet) same ∙ met in
-      let response : response_of p (goes_up by f m.axis) ≡ Reflect = ap (λ x. response_of x (goes_up by f m.axis)) same ∙ reflects in
-      rw (here, response, le-leb 0 (precedence (deciding (responses_met plates from by f m))) (omega arith)) refl
+      let response : response_of p (goes_up by f m.axis) species ≡ Reflect = ap (λ x. response_of x (goes_up by f m.axis) species) same ∙ reflects in
+      rw (here, response, le-leb 0 (precedence (deciding_at plates from by f m species).response) (omega arith)) response
   reflect_decides (p ∷ plates) plate (inr there) met reflects =
       let later = reflect_decides plates plate there met reflects in
-      cond_both (is_met from by f m p.sheet) (response_of p (goes_up by f m.axis) ∷ responses_met plates from by f m) (responses_met plates from by f m) (λ acts. deciding acts ≡ Reflect)
-      (λ e. rw later (first (response_of p (goes_up by f m.axis))))
-      (λ e. later)
-    where
-      first : (response : Response) → first_of response Reflect ≡ Reflect
-      first Reflect = refl
-      first (Absorb n) = refl
-      first (Jump by up) = refl
-      first Pass = refl
-
-  -- where no response of a plate that is met moves a molecule elsewhere, what decides doesn't
-  pub deciding_put : (plates : List Plate) → ((p : Plate) → Has plates p → is_met from by f m p.sheet ≡ true → StaysPut (response_of p (goes_up by f m.axis)))
-      → StaysPut (deciding (responses_met plates from by f m))
-  unfolding deciding responses_met
-  deciding_put [] quiet = tt
-  deciding_put (p ∷ plates) quiet =
-      let later = deciding_put plates (λ q h met. quiet q (inr h) met) in
-      cond_both (is_met from by f m p.sheet) (response_of p (goes_up by f m.axis) ∷ responses_met plates from by f m) (responses_met plates from by f m) (λ acts. StaysPut (deciding acts))
-      (λ e. cond_both _ (response_of p (goes_up by f m.axis)) (deciding (responses_met plates from by f m)) StaysPut (λ l. quiet p (inl refl) e) (λ l. later))
+      cond_both (is_met from by f m p.sheet) (effect_of p (goes_up by f m.axis) species ∷ effects_met plates from by f m species) (effects_met plates from by f m species) (λ acts. (deciding species acts).response ≡ Reflect)
+      (λ e. first_reflects (effect_of p (goes_up by f m.axis) species) (deciding_at plates from by f m species) later)
       (λ e. later)

@@ -20,10 +20,12 @@ use Rattle.smol_types.specs.Limits.{farthest}
 use Rattle.smol_types.specs.Panels.{IsPanel, IsCongruent, LeadsToCongruent}
 use Rattle.smol_types.specs.Sound.{IsSound}
 use Rattle.smol_types.specs.Walls.{AreWalls}
+use Rattle.smol_meaning.specs.declared.way.Effect.{Effect}
 use Rattle.smol_meaning.specs.declared.way.Response.{Response}
 use Rattle.smol_meaning.specs.Folds.{IsPlate, IsResponse, IsJump, IsPanelRect, IsWallPlane}
-use Rattle.smol_meaning.specs.Plates.{Sheet, Rectangle, Plane}
-use Rattle.smol_meaning.specs.Seen.{arrival_face, response_by, corner_gap, jump_between, panel_jump, panel_response, panel_plate, opposite_of, wall_jump, wall_response, wall_plate, plates_of}
+use Rattle.smol_meaning.specs.declared.sheet.Sheet.{Sheet}
+use Rattle.smol_meaning.specs.declared.sheet.Sheet.TheVariants.{Rectangle, Plane}
+use Rattle.smol_meaning.specs.Seen.{arrival_face, response_by, corner_gap, jump_between, panel_jump, panel_effect, panel_response, panel_plate, opposite_of, wall_effect, wall_jump, wall_response, wall_plate, plates_of}
 
 -- what holds of all holds of the one that is got, where one is
 all_got : {X : Type 0} → (P : X → Type 0) (xs : List X) (i : ℕ) → All P xs → IfSome (slice_get xs i) P
@@ -142,7 +144,7 @@ wall_jump_fits dims wall up None few this there = tt
 wall_jump_fits dims wall up (Some other) few this there =
     wall_jump_on dims wall.axis wall.plane other.plane (omega (arith, this.across, few)) this.across this.even there.even there.size
 
-module _ (draft : Draft) (species : ℕ) (sound : IsSound draft) where
+module _ (draft : Draft) (sound : IsSound draft) where
   pub rect_fits : (panel : Panel) → IsPanel draft.dims (length draft.surfaces) draft.panels panel → IsPanelRect panel.rect
   rect_fits panel is =
       record {
@@ -156,16 +158,17 @@ module _ (draft : Draft) (species : ℕ) (sound : IsSound draft) where
   pub rects_fit : All IsPanelRect (map (λ (panel : Panel). panel.rect) draft.panels)
   rects_fit = All-map IsPanelRect (λ (panel : Panel). panel.rect) draft.panels (λ k d l. rect_fits _ (sound.panels k d l))
 
-  panel_fits : (entry : ℕ × Panel) → IsPanel draft.dims (length draft.surfaces) draft.panels entry.1 → IsPlate draft.dims (panel_plate draft species entry)
+  panel_fits : (entry : ℕ × Panel) → IsPanel draft.dims (length draft.surfaces) draft.panels entry.1 → IsPlate draft.dims (panel_plate draft entry)
   panel_fits entry is =
       record {
         sheet = rect_fits entry.1 is;
-        below = on (arrival_face entry.1.greater true);
-        above = on (arrival_face entry.1.greater false);
+        responses = λ up species. cond_both up (panel_effect draft entry.0 entry.1 (arrival_face entry.1.greater true) species) (panel_effect draft entry.0 entry.1 (arrival_face entry.1.greater false) species)
+            (λ (effect : Effect). IsResponse draft.dims (Rectangle entry.1.rect) effect.response)
+            (λ e. on (arrival_face entry.1.greater true) species) (λ e. on (arrival_face entry.1.greater false) species);
       }
     where
-      on : (face : Face) → IsResponse draft.dims (Rectangle entry.1.rect) (panel_response draft species entry.0 entry.1 face)
-      on face =
+      on : (face : Face) (species : ℕ) → IsResponse draft.dims (Rectangle entry.1.rect) (panel_response draft species entry.0 entry.1 face)
+      on face species =
           response_fits draft.dims entry.0 (Rectangle entry.1.rect) (action_of draft entry.0 face species) (panel_jump draft.panels entry.1 (destination_of entry.1 face))
           (panel_jump_fits draft.dims (length draft.surfaces) draft.panels sound.panels entry.1 (destination_of entry.1 face) is
           (leads_on draft.dims (length draft.surfaces) draft.panels sound.panels entry.1 face is))
@@ -180,24 +183,24 @@ module _ (draft : Draft) (species : ℕ) (sound : IsSound draft) where
   pub wall_planes_fit : All (λ (wall : Wall). IsWallPlane wall.axis wall.plane) draft.walls
   wall_planes_fit = λ k d l. wall_plane_fits _ (walls_are k d l)
 
-  wall_fits : (entry : ℕ × Wall) → IsWallOf draft.dims entry.1 → IsPlate draft.dims (wall_plate draft species entry)
+  wall_fits : (entry : ℕ × Wall) → IsWallOf draft.dims entry.1 → IsPlate draft.dims (wall_plate draft entry)
   wall_fits entry is =
       record {
         sheet = wall_plane_fits entry.1 is;
-        below = on true;
-        above = on false;
+        responses = λ up species. cond_both up (wall_effect draft entry.0 entry.1 true species) (wall_effect draft entry.0 entry.1 false species)
+            (λ (effect : Effect). IsResponse draft.dims (Plane entry.1.axis entry.1.plane) effect.response) (λ e. on true species) (λ e. on false species);
       }
     where
-      on : (up : Bool) → IsResponse draft.dims (Plane entry.1.axis entry.1.plane) (wall_response draft species entry.0 entry.1 up)
-      on up =
+      on : (up : Bool) (species : ℕ) → IsResponse draft.dims (Plane entry.1.axis entry.1.plane) (wall_response draft species entry.0 entry.1 up)
+      on up species =
           response_fits draft.dims entry.0 (Plane entry.1.axis entry.1.plane) _ (wall_jump entry.1 up (opposite_of draft.walls entry.1))
           (wall_jump_fits draft.dims entry.1 up (opposite_of draft.walls entry.1) sound.dims_below is (all_found (IsWallOf draft.dims) _ draft.walls walls_are))
 
-  pub plates_fit : All (IsPlate draft.dims) (plates_of draft species)
+  pub plates_fit : All (IsPlate draft.dims) (plates_of draft)
   unfolding plates_of
   plates_fit =
-      All-append (IsPlate draft.dims) (map (panel_plate draft species) (enumerate_from 0 draft.panels)) (map (wall_plate draft species) (enumerate_from (length draft.panels) draft.walls))
-      (All-map (IsPlate draft.dims) (panel_plate draft species) (enumerate_from 0 draft.panels)
+      All-append (IsPlate draft.dims) (map (panel_plate draft) (enumerate_from 0 draft.panels)) (map (wall_plate draft) (enumerate_from (length draft.panels) draft.walls))
+      (All-map (IsPlate draft.dims) (panel_plate draft) (enumerate_from 0 draft.panels)
       (λ k d l. panel_fits _ (all_enumerated (IsPanel draft.dims (length draft.surfaces) draft.panels) 0 draft.panels sound.panels k d l)))
-      (All-map (IsPlate draft.dims) (wall_plate draft species) (enumerate_from (length draft.panels) draft.walls)
+      (All-map (IsPlate draft.dims) (wall_plate draft) (enumerate_from (length draft.panels) draft.walls)
       (λ k d l. wall_fits _ (all_enumerated (IsWallOf draft.dims) (length draft.panels) draft.walls walls_are k d l)))

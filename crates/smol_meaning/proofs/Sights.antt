@@ -15,7 +15,8 @@ use Rattle.smol_geom.proofs.Integers.{sums, mul-add_left, mul-neg_right}
 use Rattle.smol_geom.proofs.Lines.{passes_plane, meets_at_plane, meets_there}
 use Rattle.smol_geom.proofs.Fractions.{over}
 use Rattle.smol_geom.proofs.Ways.{above_low, below_high}
-use Rattle.smol_meaning.specs.Plates.{Rectangle, Plane, is_between, is_in_rect}
+use Rattle.smol_meaning.specs.declared.sheet.Sheet.TheVariants.{Rectangle, Plane}
+use Rattle.smol_meaning.specs.Plates.{is_between, is_in_rect}
 use Rattle.smol_meaning.specs.Sight.{is_strictly_between, line_meets, part_at}
 use Rattle.smol_meaning.specs.Sighted.{IsInSight, IsPlaceWithin}
 use Rattle.std.specs.Bool.{Decides}

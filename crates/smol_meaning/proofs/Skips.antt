@@ -1,5 +1,5 @@
 -- Moments at which nothing changes can be skipped.
-use Rattle.std.proofs.Common.{◌≡◌, ◌+◌, ◌<◌, Bool, true, false, ◌⊎◌, inl, inr, ⊎_elim, List, [], ◌∷◌, length, refl, sym, ◌∙◌, ap, arith}
+use Rattle.std.proofs.Common.{◌≡◌, ℕ, ◌+◌, ◌<◌, Bool, true, false, ◌⊎◌, inl, inr, ⊎_elim, List, [], ◌∷◌, length, refl, sym, ◌∙◌, ap, arith}
 use Rattle.std.specs.List.{filter}
 use Rattle.std.proofs.lemmas.Bool.{cases_Bool, both_ways, cond_both}
 use Rattle.smol_geom.specs.declared.place.Place.{Place}
@@ -9,8 +9,8 @@ use Rattle.smol_geom.specs.declared.fold.Fold.{Fold}
 use Rattle.smol_meaning.specs.declared.way.Standing.TheVariants.{Goes}
 use Rattle.smol_geom.specs.Moments.{Has, IsInOrder}
 use Rattle.smol_geom.specs.Moments.{is_before, moments_after}
-use Rattle.smol_meaning.specs.Plates.{Plate, responses_met, deciding, done_by}
-use Rattle.smol_meaning.specs.Way.{after_moment, after_moments}
+use Rattle.smol_meaning.specs.Plates.{Plate, effects_met, deciding}
+use Rattle.smol_meaning.specs.Way.{after_effect, after_moment, after_moments}
 use Rattle.smol_geom.proofs.Order.{before_not_back, not_before_itself, before_trans}
 
 -- what passes a test is all that there was where all pass it
@@ -82,41 +82,41 @@ after_after a b (m ∷ ms) l pa pb dens =
     step rest false e true f = absurd (both_ways _ e (before_trans a b m pa pb (dens m (inl refl)) l f))
     step rest false e false f = rw (e, f) rest
 
-module _ (plates : List Plate) (from : Place) (by : Step3) (f : Fold) where
-  -- the moment leaves the fold as it is
+module _ (plates : List Plate) (from : Place) (by : Step3) (f : Fold) (species : ℕ) where
+  -- the moment leaves the fold and the species as they are
   abbrev pub Keeps : Moment → Type 0
-  Keeps m = after_moment plates from by (Goes f) m ≡ Goes f
+  Keeps m = after_moment plates from by (Goes f species) m ≡ Goes f species
 
   -- no plate responds at the moment
   abbrev pub IsFree : Moment → Type 0
-  IsFree m = responses_met plates from by f m ≡ []
+  IsFree m = effects_met plates from by f m species ≡ []
 
   pub keeps_free : (m : Moment) → IsFree m → Keeps m
   unfolding deciding
-  keeps_free m free = ap (λ acts. done_by from by f m (deciding acts)) free
+  keeps_free m free = ap (λ acts. after_effect from by f m (deciding species acts)) free
 
-  -- where no moment of a list changes the fold, the list doesn't
-  pub skip_all : (ms : List Moment) → ((m : Moment) → Has ms m → Keeps m) → after_moments plates from by (Goes f) ms ≡ Goes f
+  -- where no moment of a list changes them, the list doesn't
+  pub skip_all : (ms : List Moment) → ((m : Moment) → Has ms m → Keeps m) → after_moments plates from by (Goes f species) ms ≡ Goes f species
   unfolding after_moments
   skip_all [] keep = refl
   skip_all (m ∷ ms) keep =
       ap (λ s. after_moments plates from by s ms) (keep m (inl refl)) ∙ skip_all ms (λ n h. keep n (inr h))
 
-  -- where no moment before n changes the fold, the way goes on from n with the moments after n
+  -- where no moment before n changes them, the way goes on from n with the moments after n
   pub skip_to : (n : Moment) (ms : List Moment) → IsInOrder ms → Has ms n
       → ((m : Moment) → Has ms m → is_before m n ≡ true → Keeps m)
-      → after_moments plates from by (Goes f) ms ≡ after_moments plates from by (after_moment plates from by (Goes f) n) (moments_after n ms)
+      → after_moments plates from by (Goes f species) ms ≡ after_moments plates from by (after_moment plates from by (Goes f species) n) (moments_after n ms)
   unfolding after_moments
   skip_to n [] up h keep = absurd h
   skip_to n (m ∷ ms) up (inl same) keep =
       let not_itself : is_before n m ≡ false = ap (is_before n) same ∙ not_before_itself n in
       let all_after : filter (is_before n) ms ≡ ms = filter_all (is_before n) ms (λ k h. ap (λ x. is_before x k) (sym same) ∙ up.0 k h) in
       let here : moments_after n (m ∷ ms) ≡ ms = rw not_itself all_after in
-      (λ i. after_moments plates from by (after_moment plates from by (Goes f) (same i)) ms)
-      ∙ ap (λ xs. after_moments plates from by (after_moment plates from by (Goes f) n) xs) (sym here)
+      (λ i. after_moments plates from by (after_moment plates from by (Goes f species) (same i)) ms)
+      ∙ ap (λ xs. after_moments plates from by (after_moment plates from by (Goes f species) n) xs) (sym here)
   skip_to n (m ∷ ms) up (inr there) keep =
       let earlier : is_before m n ≡ true = up.0 n there in
       let dropped : moments_after n (m ∷ ms) ≡ moments_after n ms = rw (before_not_back m n earlier) refl in
       ap (λ s. after_moments plates from by s ms) (keep m (inl refl) earlier)
       ∙ skip_to n ms up.1 there (λ k h. keep k (inr h))
-      ∙ ap (λ xs. after_moments plates from by (after_moment plates from by (Goes f) n) xs) (sym dropped)
+      ∙ ap (λ xs. after_moments plates from by (after_moment plates from by (Goes f species) n) xs) (sym dropped)

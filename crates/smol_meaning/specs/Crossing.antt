@@ -21,15 +21,15 @@ pub record Crosses (from : Place) (by : Step3) (f : Fold) (m : Moment) (g : Fold
   pub at_one_point : (axis : ℕ) → axis < 3 → true_point g from by (part_of m) axis ≈ℚ true_point f from by (part_of m) axis
   pub goes_on : goes_up by g m.axis ≡ goes_up by f m.axis
 
--- from here on the way crosses no plate that reflects on the face of arrival
+-- from here on the way crosses no plate that reflects, on the face of arrival, the species that the molecule is then
 abbrev pub CrossesNoneAt : List Plate → Place → Step3 → Standing → List Moment → Type 0
 CrossesNoneAt plates from by standing [] = Unit {0}
 CrossesNoneAt plates from by (Gone number) (m ∷ ms) = Unit {0}
-CrossesNoneAt plates from by (Goes f) (m ∷ ms) =
-    ((plate : Plate) → Contains plates plate → response_of plate (goes_up by f m.axis) ≡ Reflect
-    → (g : Fold) → after_moment plates from by (Goes f) m ≡ Goes g → Crosses from by f m g plate → ⊥)
-    × CrossesNoneAt plates from by (after_moment plates from by (Goes f) m) ms
+CrossesNoneAt plates from by (Goes f species) (m ∷ ms) =
+    ((plate : Plate) → Contains plates plate → response_of plate (goes_up by f m.axis) species ≡ Reflect
+    → (g : Fold) (next : ℕ) → after_moment plates from by (Goes f species) m ≡ Goes g next → Crosses from by f m g plate → ⊥)
+    × CrossesNoneAt plates from by (after_moment plates from by (Goes f species) m) ms
 
--- the way of a move crosses no plate that reflects on the face of arrival
-unfoldable pub CrossesNone : List Plate → Place → Step3 → Type 0
-CrossesNone plates from by = CrossesNoneAt plates from by (Goes straight) (moments from by)
+-- the way of a move of a species crosses no plate that reflects, on the face of arrival, what the molecule is then
+unfoldable pub CrossesNone : List Plate → ℕ → Place → Step3 → Type 0
+CrossesNone plates species from by = CrossesNoneAt plates from by (Goes straight species) (moments from by)

@@ -1,5 +1,5 @@
 -- What holds of every fold that a way reaches among the plates of a configuration.
-use Rattle.std.specs.Prelude.{◌≡◌, ◌≢◌, ℕ, ◌^◌, ◌<◌, ◌≤◌, List, length, ℤ, pos, ◌+ℤ◌, unsigned_abs}
+use Rattle.std.specs.Prelude.{◌≡◌, ◌≢◌, ℕ, Bool, ◌^◌, ◌<◌, ◌≤◌, List, length, ℤ, pos, ◌+ℤ◌, unsigned_abs}
 use Rattle.smol_geom.specs.declared.fold.Fold.{Fold}
 use Rattle.smol_geom.specs.declared.place.Place.{Place}
 use Rattle.smol_geom.specs.declared.place.Step3.{Step3}
@@ -8,12 +8,14 @@ use Rattle.smol_geom.specs.Axes.{on_axis, EachAxis, IsWithin, IsEven}
 use Rattle.smol_geom.specs.Fold.{IsFold}
 use Rattle.smol_geom.specs.Rect.{IsRect, plane_of}
 use Rattle.smol_types.specs.Limits.{farthest}
+use Rattle.smol_meaning.specs.declared.sheet.Sheet.{Sheet}
+use Rattle.smol_meaning.specs.declared.sheet.Sheet.TheVariants.{Rectangle, Plane}
 use Rattle.smol_meaning.specs.declared.way.Response.{Response}
 use Rattle.smol_meaning.specs.declared.way.Response.TheVariants.{Reflect, Absorb, Jump, Pass}
 use Rattle.smol_meaning.specs.declared.way.Standing.{Standing}
 use Rattle.smol_meaning.specs.declared.way.Standing.TheVariants.{Goes, Gone}
 use Rattle.smol_meaning.specs.Moves.{far_on}
-use Rattle.smol_meaning.specs.Plates.{Sheet, Rectangle, Plane, Plate}
+use Rattle.smol_meaning.specs.Plates.{Plate, response_of}
 use Rattle.smol_meaning.specs.Way.{end_on}
 
 -- a rectangle within the lengths there are, across an axis at an even plane
@@ -57,8 +59,7 @@ IsResponse dims sheet Pass = Unit {0}
 -- a panel or wall of a configuration in which so many axes are in use
 pub record IsPlate (dims : ℕ) (plate : Plate) : Type 0 where
   pub sheet : IsSheet plate.sheet
-  pub below : IsResponse dims plate.sheet plate.from_below
-  pub above : IsResponse dims plate.sheet plate.from_above
+  pub responses : (up : Bool) (species : ℕ) → IsResponse dims plate.sheet (response_of plate up species)
 
 -- a fold with three signs and three even shifts that aren't large
 pub record IsSmallFold (f : Fold) : Type 0 where
@@ -76,5 +77,5 @@ pub record FoldFits (dims : ℕ) (from : Place) (by : Step3) (f : Fold) : Type 0
   pub unused : EachAxis (λ axis. dims ≤ axis → end_on from by f axis ≡ on_axis from.0 axis)
 
 abbrev pub StandingFits : ℕ → Place → Step3 → Standing → Type 0
-StandingFits dims from by (Goes f) = FoldFits dims from by f
+StandingFits dims from by (Goes f species) = FoldFits dims from by f
 StandingFits dims from by (Gone number) = Unit {0}

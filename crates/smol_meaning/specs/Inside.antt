@@ -5,7 +5,7 @@ use Rattle.smol_geom.specs.declared.place.Place.{Place}
 use Rattle.smol_types.specs.declared.compartment.Compartment.{Compartment}
 use Rattle.smol_types.specs.declared.draft.Draft.{Draft}
 use Rattle.smol_types.specs.declared.surface.Panel.{Panel}
-use Rattle.smol_meaning.specs.Plates.{Rectangle}
+use Rattle.smol_meaning.specs.declared.sheet.Sheet.TheVariants.{Rectangle}
 use Rattle.smol_meaning.specs.Sight.{line_meets}
 
 -- whether a panel belongs to one of the surfaces

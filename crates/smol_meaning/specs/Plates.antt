@@ -1,4 +1,4 @@
--- Panels and walls as one species sees them, and what those do that a molecule meets at a moment of its move.
+-- Panels and walls, and what those do that a molecule meets at a moment of its move.
 use Rattle.std.specs.Prelude.{ℕ, ◌&&◌, ◌==◌, Bool, not, nat_le, List, [], ◌∷◌, ℤ, pos, ◌+ℤ◌, ◌-ℤ◌, ◌*ℤ◌, neg_ℤ, int_lt, int_le, if◌then◌else◌, slice_set}
 use Rattle.smol_geom.specs.declared.place.Place.{Place}
 use Rattle.smol_geom.specs.declared.place.Step3.{Step3}
@@ -11,21 +11,19 @@ use Rattle.smol_geom.specs.Fold.{true_point}
 use Rattle.smol_geom.specs.Moment.{part_of}
 use Rattle.smol_geom.specs.Moments.{coordinate_after}
 use Rattle.smol_geom.specs.Rect.{HoldsPoint, plane_of}
+use Rattle.smol_meaning.specs.declared.sheet.Sheet.{Sheet}
+use Rattle.smol_meaning.specs.declared.sheet.Sheet.TheVariants.{Rectangle, Plane}
+use Rattle.smol_meaning.specs.declared.way.Effect.{Effect}
 use Rattle.smol_meaning.specs.declared.way.Response.{Response}
 use Rattle.smol_meaning.specs.declared.way.Response.TheVariants.{Reflect, Absorb, Jump, Pass}
 use Rattle.smol_meaning.specs.declared.way.Standing.{Standing}
 use Rattle.smol_meaning.specs.declared.way.Standing.TheVariants.{Goes, Gone}
 
--- a panel is a closed rectangle across an axis, and a wall is a whole plane across an axis: it has no edges
-pub data Sheet : Type 0 where
-  Rectangle : (rect : Rect) → Sheet
-  Plane : (axis : ℕ) (plane : ℤ) → Sheet
-
--- a panel or a wall with what it does to a species, on arrival from its lesser and from its greater side
+-- a panel or a wall with what it does to a molecule of a species, on arrival from its lesser and from its greater side
 pub record Plate : Type 0 where
   pub sheet : Sheet
-  pub from_below : Response
-  pub from_above : Response
+  pub from_below : ℕ → Effect
+  pub from_above : ℕ → Effect
 
 -- the axis that the sheet lies across
 abbrev pub sheet_axis : Sheet → ℕ
@@ -70,17 +68,21 @@ is_met from by f m sheet = (sheet_axis sheet == m.axis) && is_on sheet (true_poi
 abbrev pub goes_up : Step3 → Fold → ℕ → Bool
 goes_up by f axis = int_lt (pos 0) (on_axis f.sign axis *ℤ on_axis by.0 axis)
 
--- what the plate does on the face of arrival: motion that goes up arrives from below
-abbrev pub response_of : Plate → Bool → Response
-response_of plate up = if up then plate.from_below else plate.from_above
+-- what the plate does to a species on the face of arrival: motion that goes up arrives from below
+abbrev pub effect_of : Plate → Bool → ℕ → Effect
+effect_of plate up species = if up then plate.from_below species else plate.from_above species
 
--- what the plates do that are met at a moment, in the order of their numbers
-unfoldable pub responses_met : List Plate → Place → Step3 → Fold → Moment → List Response
-responses_met [] from by f m = []
-responses_met (plate ∷ plates) from by f m =
+-- what it does, whatever it makes of the species
+abbrev pub response_of : Plate → Bool → ℕ → Response
+response_of plate up species = (effect_of plate up species).response
+
+-- what the plates do to a species that are met at a moment, in the order of their numbers
+unfoldable pub effects_met : List Plate → Place → Step3 → Fold → Moment → ℕ → List Effect
+effects_met [] from by f m species = []
+effects_met (plate ∷ plates) from by f m species =
     if is_met from by f m plate.sheet
-    then response_of plate (goes_up by f m.axis) ∷ responses_met plates from by f m
-    else responses_met plates from by f m
+    then effect_of plate (goes_up by f m.axis) species ∷ effects_met plates from by f m species
+    else effects_met plates from by f m species
 
 -- the order in which responses decide where several plates are met at one point
 abbrev pub precedence : Response → ℕ
@@ -90,13 +92,13 @@ precedence (Jump by up) = 2
 precedence Pass = 3
 
 -- the one of two that decides, where the first is of the plate of the lower number
-abbrev pub first_of : Response → Response → Response
-first_of response later = if nat_le (precedence response) (precedence later) then response else later
+abbrev pub first_of : Effect → Effect → Effect
+first_of effect later = if nat_le (precedence effect.response) (precedence later.response) then effect else later
 
--- the one that decides: by precedence, and then by number. Where no plate is met, the molecule passes
-unfoldable pub deciding : List Response → Response
-deciding [] = Pass
-deciding (response ∷ responses) = first_of response (deciding responses)
+-- the one that decides: by precedence, and then by number. Where no plate is met, the molecule passes as it is
+unfoldable pub deciding : ℕ → List Effect → Effect
+deciding species [] = record { response = Pass; species = species }
+deciding species (effect ∷ effects) = first_of effect (deciding species effects)
 
 -- the whole number that the true coordinate on a moment's axis is at the moment
 abbrev pub plane_at : Place → Step3 → Fold → Moment → ℤ
@@ -128,9 +130,9 @@ abbrev pub jumped : Fold → ℕ → ℤ → List ℤ → Bool → Bool → Fold
 jumped f axis plane by up goes =
     if are_same goes up then shifted f by else mirrored (shifted f by) axis (plane +ℤ on_axis by axis)
 
--- what a response makes of a fold at a moment
-abbrev pub done_by : Place → Step3 → Fold → Moment → Response → Standing
-done_by from by f m Reflect = Goes (mirrored f m.axis (plane_at from by f m))
-done_by from by f m (Absorb number) = Gone number
-done_by from by f m (Jump shift up) = Goes (jumped f m.axis (plane_at from by f m) shift up (goes_up by f m.axis))
-done_by from by f m Pass = Goes f
+-- what a response makes of a fold at a moment, where the molecule is of this species from then on
+abbrev pub done_by : Place → Step3 → Fold → Moment → Response → ℕ → Standing
+done_by from by f m Reflect species = Goes (mirrored f m.axis (plane_at from by f m)) species
+done_by from by f m (Absorb number) species = Gone number
+done_by from by f m (Jump shift up) species = Goes (jumped f m.axis (plane_at from by f m) shift up (goes_up by f m.axis)) species
+done_by from by f m Pass species = Goes f species

@@ -1,5 +1,5 @@
--- What a species sees of a configuration: panels in the order of their numbers, and walls behind them.
-use Rattle.std.specs.Prelude.{ℕ, ◌==◌, ◌&&◌, Bool, true, false, not, List, [], ◌∷◌, ◌++◌, length, map, find, ℤ, pos, ◌-ℤ◌, if◌then◌else◌, Option, Some, None, slice_get, slice_set, ◌<◌}
+-- The panels and walls of a configuration, and what each face of theirs does to a species.
+use Rattle.std.specs.Prelude.{ℕ, ◌==◌, ◌&&◌, Bool, true, false, not, List, [], ◌∷◌, ◌++◌, length, map, find, ℤ, pos, ◌-ℤ◌, if◌then◌else◌, Option, Some, None, slice_get, slice_set, nat_lt}
 use Rattle.std.specs.List.{enumerate_from}
 use Rattle.smol_geom.specs.declared.cuboid.Cuboid.{Cuboid}
 use Rattle.smol_geom.specs.declared.place.Place.{Place}
@@ -14,10 +14,12 @@ use Rattle.smol_types.specs.declared.surface.Face.TheVariants.{Front, Back}
 use Rattle.smol_types.specs.declared.surface.Panel.{Panel}
 use Rattle.smol_types.specs.declared.wall.Wall.{Wall}
 use Rattle.smol_types.specs.Actions.{action_of, destination_of}
+use Rattle.smol_meaning.specs.declared.sheet.Sheet.TheVariants.{Rectangle, Plane}
+use Rattle.smol_meaning.specs.declared.way.Effect.{Effect}
 use Rattle.smol_meaning.specs.declared.way.Response.{Response}
 use Rattle.smol_meaning.specs.declared.way.Response.TheVariants.{Reflect, Absorb, Jump, Pass}
 use Rattle.smol_meaning.specs.declared.way.Travelled.{Travelled}
-use Rattle.smol_meaning.specs.Plates.{Plate, Rectangle, Plane, are_same}
+use Rattle.smol_meaning.specs.Plates.{Plate, are_same}
 use Rattle.smol_meaning.specs.Way.{way_among}
 use Rattle.smol_meaning.specs.Box.{IsClosed}
 
@@ -57,11 +59,15 @@ abbrev pub panel_response : Draft → ℕ → ℕ → Panel → Face → Respons
 panel_response draft species number panel face =
     response_by number (action_of draft number face species) (panel_jump draft.panels panel (destination_of panel face))
 
-abbrev pub panel_plate : Draft → ℕ → ℕ × Panel → Plate
-panel_plate draft species entry = record {
+-- what it does on a face, and what it makes of the species: no face changes a species
+abbrev pub panel_effect : Draft → ℕ → Panel → Face → ℕ → Effect
+panel_effect draft number panel face species = record { response = panel_response draft species number panel face; species = species }
+
+abbrev pub panel_plate : Draft → ℕ × Panel → Plate
+panel_plate draft entry = record {
   sheet = Rectangle entry.1.rect;
-  from_below = panel_response draft species entry.0 entry.1 (arrival_face entry.1.greater true);
-  from_above = panel_response draft species entry.0 entry.1 (arrival_face entry.1.greater false);
+  from_below = panel_effect draft entry.0 entry.1 (arrival_face entry.1.greater true);
+  from_above = panel_effect draft entry.0 entry.1 (arrival_face entry.1.greater false);
 }
 
 -- the other wall of the same axis
@@ -80,23 +86,31 @@ wall_response draft species number wall up =
     response_by number (action_of draft number (arrival_face (not wall.upper) up) species)
     (wall_jump wall up (opposite_of draft.walls wall))
 
-abbrev pub wall_plate : Draft → ℕ → ℕ × Wall → Plate
-wall_plate draft species entry = record {
+-- what it does to a species, which it leaves as it is
+abbrev pub wall_effect : Draft → ℕ → Wall → Bool → ℕ → Effect
+wall_effect draft number wall up species = record { response = wall_response draft species number wall up; species = species }
+
+abbrev pub wall_plate : Draft → ℕ × Wall → Plate
+wall_plate draft entry = record {
   sheet = Plane entry.1.axis entry.1.plane;
-  from_below = wall_response draft species entry.0 entry.1 true;
-  from_above = wall_response draft species entry.0 entry.1 false;
+  from_below = wall_effect draft entry.0 entry.1 true;
+  from_above = wall_effect draft entry.0 entry.1 false;
 }
 
--- the panels and walls as a species sees them, in the order of their numbers
-unfoldable pub plates_of : Draft → ℕ → List Plate
-plates_of draft species =
-    map (panel_plate draft species) (enumerate_from 0 draft.panels)
-    ++ map (wall_plate draft species) (enumerate_from (length draft.panels) draft.walls)
+-- the panels and walls in the order of their numbers: panels, and walls behind them
+unfoldable pub plates_of : Draft → List Plate
+plates_of draft =
+    map (panel_plate draft) (enumerate_from 0 draft.panels)
+    ++ map (wall_plate draft) (enumerate_from (length draft.panels) draft.walls)
 
 -- where the way of a molecule of a species ends that moves from a place by a displacement
 abbrev pub way : Draft → ℕ → Place → Step3 → Travelled
-way draft species from by = way_among (plates_of draft species) from by
+way draft species from by = way_among (plates_of draft) species from by
+
+-- whether the configuration has a species of this number
+abbrev pub is_species : Draft → ℕ → Bool
+is_species draft species = nat_lt species (length draft.species)
 
 -- the configuration makes a closed reflecting box for every species
 abbrev pub IsClosedBox : Draft → Cuboid → Type 0
-IsClosedBox draft box = (species : ℕ) → species < length draft.species → IsClosed draft.dims (plates_of draft species) box
+IsClosedBox draft box = IsClosed draft.dims (plates_of draft) (is_species draft) box

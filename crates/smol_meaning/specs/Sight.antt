@@ -7,9 +7,10 @@ use Rattle.smol_geom.specs.Fraction.{Fraction}
 use Rattle.smol_geom.specs.Line.{line_point}
 use Rattle.smol_types.specs.declared.draft.Draft.{Draft}
 use Rattle.smol_types.specs.declared.state.Mol.{Mol}
+use Rattle.smol_meaning.specs.declared.sheet.Sheet.{Sheet}
 use Rattle.smol_meaning.specs.declared.way.Response.{Response}
 use Rattle.smol_meaning.specs.declared.way.Response.TheVariants.{Reflect, Absorb, Jump, Pass}
-use Rattle.smol_meaning.specs.Plates.{Plate, Sheet, is_on, response_of, sheet_axis, sheet_plane}
+use Rattle.smol_meaning.specs.Plates.{Plate, is_on, response_of, sheet_axis, sheet_plane}
 use Rattle.smol_meaning.specs.Seen.{plates_of}
 
 -- whether the first number lies between the other two, and is neither of them
@@ -38,13 +39,13 @@ passes Pass = true
 abbrev pub is_below : Sheet → Place → Bool
 is_below sheet place = int_lt (on_axis place.0 (sheet_axis sheet)) (sheet_plane sheet)
 
--- whether a plate stands on the line from a to b and doesn't let through what comes straight from a
-abbrev pub bars : Place → Place → Plate → Bool
-bars a b plate = line_meets plate.sheet a b && not (passes (response_of plate (is_below plate.sheet a)))
+-- whether a plate stands on the line from a to b and doesn't let through what comes straight from a as this species
+abbrev pub bars : ℕ → Place → Place → Plate → Bool
+bars species a b plate = line_meets plate.sheet a b && not (passes (response_of plate (is_below plate.sheet a) species))
 
 -- whether some panel or wall doesn't let a molecule of this species through on its straight way from a to b
 abbrev pub is_barred : Draft → ℕ → Place → Place → Bool
-is_barred draft species a b = list_any (bars a b) (plates_of draft species)
+is_barred draft species a b = list_any (bars species a b) (plates_of draft)
 
 -- whether two molecules are hidden from each other: one of them is barred from the other
 unfoldable pub are_hidden : Draft → Mol → Mol → Bool

@@ -4,6 +4,7 @@
 mod due;
 mod event;
 mod law;
+mod sheet;
 mod sight;
 mod way;
 mod who;
@@ -14,6 +15,7 @@ pub use law::{
     each_state_fits, no_way_crosses, no_way_of_a_run_crosses, ways_are_confined, ways_end_near,
     ways_of_a_run_are_confined,
 };
+pub use sheet::Sheet;
 pub use sight::{a_line_meets_a_panel, a_line_meets_a_wall, meets_panel, meets_wall};
-pub use way::{Response, Standing, Travelled};
+pub use way::{Effect, Response, Standing, Travelled};
 pub use who::{a_molecule_makes_the_reaction_that_it_draws, candidates_are_those_that_may_meet};

@@ -4,7 +4,7 @@ ghost use Rattle.smol_geom.specs.declared.place.Place.{Place};
 ghost use Rattle.smol_geom.specs.declared.rect.Rect.{Rect};
 ghost use Rattle.smol_geom.specs.Axes.{on_axis};
 ghost use Rattle.smol_geom.specs.Line.{IsStrictlyBetween, LineMeets};
-ghost use Rattle.smol_meaning.specs.Plates.{Plane, Rectangle};
+ghost use Rattle.smol_meaning.specs.declared.sheet.Sheet.TheVariants.{Plane, Rectangle};
 ghost use Rattle.smol_meaning.specs.Sight.{is_strictly_between, line_meets};
 ghost use Rattle.smol_meaning.specs.Sighted.{IsInSight, IsPlaceWithin};
 

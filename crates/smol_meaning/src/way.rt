@@ -14,11 +14,18 @@ pub enum Response {
     Pass,
 }
 
+/// What a face does to a molecule that arrives on it, and the species that it makes of it.
+#[derive(Clone, Copy, Debug, PartialEq, Eq)]
+pub struct Effect {
+    pub response: Response,
+    pub species: u16,
+}
+
 /// Where a way has led so far.
 #[derive(Clone, Copy, Debug, PartialEq, Eq)]
 pub enum Standing {
-    /// On, by this fold.
-    Goes { fold: Fold },
+    /// On, by this fold and as a molecule of this species.
+    Goes { fold: Fold, species: u16 },
     /// Onto the panel or wall of this number, which absorbs.
     Gone { number: u16 },
 }

@@ -17,7 +17,7 @@ text_safe : (seed : Option ℕ) (text : List ℕ) → TextGoesSafely seed text
 text_safe seed text draft run accepted ran =
     let sound = accepted_is_sound text draft accepted in
     record {
-      crosses_none = λ i d within. crosses_none (plates_of draft (get_or run.moves i d).species) (get_or run.moves i d).from (get_or run.moves i d).by;
+      crosses_none = λ i d within. crosses_none (plates_of draft) (get_or run.moves i d).species (get_or run.moves i d).from (get_or run.moves i d).by;
       confined = run_confines draft (seed_of seed draft) run sound ran;
       states = (run_is_kept draft (seed_of seed draft) run sound ran).0;
       stays = λ box closed. run_is_confined draft (seed_of seed draft) run box sound ran closed;

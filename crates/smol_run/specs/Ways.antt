@@ -1,5 +1,5 @@
 -- Where molecules go in the run that the words ask for.
-use Rattle.std.specs.Prelude.{◌≡◌, ℕ, List, [], Option, None, Some, Ok, All, slice_index_or}
+use Rattle.std.specs.Prelude.{◌≡◌, ℕ, Bool, true, List, [], Option, None, Some, Ok, All, slice_index_or}
 use Rattle.smol_geom.specs.declared.cuboid.Cuboid.{Cuboid}
 use Rattle.smol_types.specs.declared.draft.Draft.{Draft}
 use Rattle.smol_types.specs.State.{Fits}
@@ -15,13 +15,14 @@ use Rattle.smol_run.specs.declared.words.Job.{Job}
 use Rattle.smol_run.specs.declared.words.Job.TheVariants.{File}
 use Rattle.smol_run.specs.Outcome.{seed_of}
 
--- no way of the run crosses a face that reflects its species, each way that starts inside a closed reflecting box stays in it, and
--- each state fits the configuration. A molecule that is inside a closed reflecting box in one state is inside it in each later one, or
--- gone; and in each step the products of what is inside are inside, and no molecule inside reacts with one outside
+-- no way of the run crosses a face that reflects its species, each way that starts inside a box that is closed for some species, its
+-- own among them, stays in it, and each state fits the configuration. A molecule that is inside a closed reflecting box in one state
+-- is inside it in each later one, or gone; and in each step the products of what is inside are inside, and no molecule inside reacts
+-- with one outside
 pub record GoesSafely (draft : Draft) (seed : ℕ) (run : Stretch) : Type 0 where
-  pub crosses_none : All (λ (move : Move). CrossesNone (plates_of draft move.species) move.from move.by) run.moves
-  pub confined : All (λ (move : Move). (box : Cuboid) → IsClosed draft.dims (plates_of draft move.species) box → IsInside box move.from
-      → Confines (plates_of draft move.species) move.from move.by box) run.moves
+  pub crosses_none : All (λ (move : Move). CrossesNone (plates_of draft) move.species move.from move.by) run.moves
+  pub confined : All (λ (move : Move). (among : ℕ → Bool) (box : Cuboid) → among move.species ≡ true → IsClosed draft.dims (plates_of draft) among box
+      → IsInside box move.from → Confines (plates_of draft) move.species move.from move.by box) run.moves
   pub states : All (Fits draft) run.states
   pub stays : (box : Cuboid) → IsClosedBox draft box → RunIsConfined run box
   pub events : (box : Cuboid) → IsClosedBox draft box → EventsOfRunAreConfined draft seed run box

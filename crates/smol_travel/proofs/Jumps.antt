@@ -14,7 +14,9 @@ use Rattle.smol_types.specs.Limits.{farthest}
 use Rattle.smol_meaning.specs.declared.way.Response.{Response}
 use Rattle.smol_meaning.specs.declared.way.Response.TheVariants.{Reflect, Absorb, Jump, Pass}
 use Rattle.smol_meaning.specs.Folds.{IsSheet, IsPlate, IsResponse, IsJump}
-use Rattle.smol_meaning.specs.Plates.{Sheet, Rectangle, Plane, Plate, goes_up, response_of, responses_met, deciding}
+use Rattle.smol_meaning.specs.declared.sheet.Sheet.{Sheet}
+use Rattle.smol_meaning.specs.declared.sheet.Sheet.TheVariants.{Rectangle, Plane}
+use Rattle.smol_meaning.specs.Plates.{Plate, goes_up, response_of, responses_met, deciding}
 use Rattle.smol_meaning.proofs.Bounds.{Decides, decided_by}
 use Rattle.smol_travel.specs.Meetings.{IsSmallJump}
 

@@ -11,7 +11,8 @@ use Rattle.smol_geom.specs.Fold.{IsSign, true_point}
 use Rattle.smol_geom.specs.Moment.{part_of}
 use Rattle.smol_geom.specs.Moments.{IsMoment}
 use Rattle.smol_geom.specs.Rect.{HoldsPoint, IsRect}
-use Rattle.smol_meaning.specs.Plates.{Rectangle, Plane, is_met, plane_at}
+use Rattle.smol_meaning.specs.declared.sheet.Sheet.TheVariants.{Rectangle, Plane}
+use Rattle.smol_meaning.specs.Plates.{is_met, plane_at}
 use Rattle.smol_meaning.proofs.Planes.{met_plane, plane_met}
 use Rattle.smol_travel.proofs.Scan.{holds_agrees}
 

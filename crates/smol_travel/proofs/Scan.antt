@@ -14,7 +14,8 @@ use Rattle.smol_geom.specs.Moment.{IsBefore}
 use Rattle.smol_geom.specs.Moments.{is_before, ticks}
 use Rattle.smol_geom.specs.Rect.{HoldsPoint}
 use Rattle.smol_geom.proofs.Order.{Before, before_is, is_before_from, before_trans, before_either, not_before_itself}
-use Rattle.smol_meaning.specs.Plates.{Sheet, is_in_rect, is_met}
+use Rattle.smol_meaning.specs.declared.sheet.Sheet.{Sheet}
+use Rattle.smol_meaning.specs.Plates.{is_in_rect, is_met}
 use Rattle.smol_meaning.proofs.Responses.{holds_from, holds_is}
 use Rattle.smol_travel.specs.Meetings.{NoneMet, ComesLater, NothingBefore, IsNext, sooner_of, earliest_of}
 

@@ -10,7 +10,8 @@ use Rattle.smol_geom.specs.Axes.{on_axis, EachAxis}
 use Rattle.smol_geom.specs.Fold.{IsFold, IsSign}
 use Rattle.smol_geom.specs.Moments.{IsMoment, coordinate_from, coordinate_after, ticks}
 use Rattle.smol_geom.proofs.EachAxis.{at_axis}
-use Rattle.smol_meaning.specs.Plates.{Sheet, is_met, plane_at, sheet_axis, sheet_plane}
+use Rattle.smol_meaning.specs.declared.sheet.Sheet.{Sheet}
+use Rattle.smol_meaning.specs.Plates.{is_met, plane_at, sheet_axis, sheet_plane}
 use Rattle.smol_meaning.proofs.Planes.{IsFlat, met_plane}
 use Rattle.smol_travel.specs.Meetings.{IsBetween, IsSpan}
 

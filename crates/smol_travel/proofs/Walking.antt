@@ -15,7 +15,9 @@ use Rattle.smol_types.specs.declared.draft.Draft.{Draft}
 use Rattle.smol_types.specs.declared.surface.Panel.{Panel}
 use Rattle.smol_types.specs.declared.wall.Wall.{Wall}
 use Rattle.smol_meaning.specs.declared.way.Standing.TheVariants.{Goes, Gone}
-use Rattle.smol_meaning.specs.Plates.{Plate, Sheet, Rectangle, is_met, responses_met}
+use Rattle.smol_meaning.specs.declared.sheet.Sheet.{Sheet}
+use Rattle.smol_meaning.specs.declared.sheet.Sheet.TheVariants.{Rectangle}
+use Rattle.smol_meaning.specs.Plates.{Plate, is_met, responses_met}
 use Rattle.smol_meaning.specs.Seen.{panel_plate, wall_plate, plates_of}
 use Rattle.smol_meaning.specs.Way.{after_moment, after_moments}
 use Rattle.smol_meaning.proofs.Skips.{filter_all, filter_rises, filter_shorter, has_filtered, filtered_has, after_after, keeps_free, skip_all, skip_to}

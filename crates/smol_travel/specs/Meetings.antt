@@ -13,7 +13,9 @@ use Rattle.smol_types.specs.declared.wall.Wall.{Wall}
 use Rattle.smol_meaning.specs.declared.way.Response.{Response}
 use Rattle.smol_meaning.specs.declared.way.Standing.TheVariants.{Goes}
 use Rattle.smol_meaning.specs.declared.way.Response.TheVariants.{Reflect, Absorb, Jump, Pass}
-use Rattle.smol_meaning.specs.Plates.{Sheet, Rectangle, Plane, Plate, is_met, plane_at, goes_up, response_of, first_of}
+use Rattle.smol_meaning.specs.declared.sheet.Sheet.{Sheet}
+use Rattle.smol_meaning.specs.declared.sheet.Sheet.TheVariants.{Rectangle, Plane}
+use Rattle.smol_meaning.specs.Plates.{Plate, is_met, plane_at, goes_up, response_of, first_of}
 use Rattle.smol_meaning.specs.Folds.{FoldFits}
 use Rattle.smol_meaning.specs.Seen.{plates_of}
 use Rattle.smol_meaning.specs.Way.{after_moments, straight}

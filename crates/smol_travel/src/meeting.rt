@@ -5,7 +5,8 @@ ghost use Rattle.smol_geom.specs.Axes.{EachAxis, IsEven, IsWithin, on_axis};
 ghost use Rattle.smol_geom.specs.Moments.{IsMoment, is_before};
 ghost use Rattle.smol_types.specs.declared.wall.Wall.{Wall};
 ghost use Rattle.smol_meaning.specs.Folds.{IsPanelRect, IsWallPlane, IsSmallFold};
-ghost use Rattle.smol_meaning.specs.Plates.{Rectangle, is_met, plane_at};
+ghost use Rattle.smol_meaning.specs.declared.sheet.Sheet.TheVariants.{Rectangle};
+ghost use Rattle.smol_meaning.specs.Plates.{is_met, plane_at};
 ghost use Rattle.smol_travel.specs.Meetings.{IsBetween, ComesLater, IsNext, IsSpan, sooner_of, earliest_of, rect_sheets, wall_sheet, wall_sheets, sheets_of};
 
 use crate::Panels;

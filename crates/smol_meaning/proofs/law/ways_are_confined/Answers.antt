@@ -4,5 +4,5 @@ use Rattle.smol_meaning.proofs.Seeing.{plates_fit}
 use Rattle.smol_meaning.proofs.law.ways_are_confined.Goals as goal
 
 pub returns : goal.returns
-returns c = λ draft species from by box sound move closed inside.
-    confined draft.dims (plates_of draft species) box from by move (plates_fit draft species sound) closed inside
+returns c = λ draft species from by among box sound move kin closed inside.
+    confined draft.dims (plates_of draft) among box from by move (plates_fit draft sound) closed species kin inside

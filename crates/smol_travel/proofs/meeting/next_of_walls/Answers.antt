@@ -1,6 +1,6 @@
 use Rattle.std.proofs.Common.{◌<◌, ◌≤◌, length, pos, ap, arith, sym, subst}
 use Rattle.std.proofs.lemmas.List.{take_all, get_or-map, length-map}
-use Rattle.smol_meaning.specs.Plates.{Plane}
+use Rattle.smol_meaning.specs.declared.sheet.Sheet.TheVariants.{Plane}
 use Rattle.smol_travel.specs.Meetings.{IsNext, wall_sheet, wall_sheets}
 use Rattle.smol_travel.proofs.Scan.{next_same, next_met, some_or}
 use Rattle.smol_travel.proofs.meeting.next_of_walls.Goals as goal

@@ -9,7 +9,8 @@ use Rattle.smol_geom.specs.Moments.{is_before}
 use Rattle.smol_geom.proofs.EachAxis.{at_axis}
 use Rattle.smol_geom.proofs.Sizes.{small_fits}
 use Rattle.smol_types.specs.Limits.{farthest}
-use Rattle.smol_meaning.specs.Plates.{Rectangle, is_met, is_in_rect}
+use Rattle.smol_meaning.specs.declared.sheet.Sheet.TheVariants.{Rectangle}
+use Rattle.smol_meaning.specs.Plates.{is_met, is_in_rect}
 use Rattle.smol_meaning.proofs.Planes.{met_plane}
 use Rattle.smol_travel.proofs.Scan.{some_or, holds_agrees}
 use Rattle.smol_travel.proofs.Ticks.{part_from}

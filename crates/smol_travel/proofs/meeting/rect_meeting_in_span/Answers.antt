@@ -5,7 +5,7 @@ use Rattle.smol_geom.specs.Axes.{on_axis}
 use Rattle.smol_geom.proofs.EachAxis.{at_axis}
 use Rattle.smol_geom.proofs.Sizes.{small_fits}
 use Rattle.smol_types.specs.Limits.{farthest}
-use Rattle.smol_meaning.specs.Plates.{Rectangle}
+use Rattle.smol_meaning.specs.declared.sheet.Sheet.TheVariants.{Rectangle}
 use Rattle.smol_travel.proofs.Span.{never_met}
 use Rattle.smol_travel.proofs.meeting.rect_meeting_in_span.Goals as goal
 
