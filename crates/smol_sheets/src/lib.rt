@@ -1,0 +1,10 @@
+//! Panels and walls as one kind: where they stand and what their faces do.
+#![tactic(auto)]
+
+mod effect;
+mod hidden;
+mod panels;
+mod sheet;
+
+pub use panels::Panels;
+pub use sheet::{axis_of, line_meets, plane_of};

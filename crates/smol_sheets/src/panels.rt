@@ -1,0 +1,78 @@
+ghost use Rattle.std.specs.Prelude.{◌≡◌, ◌++◌, IfOk, map};
+ghost use Rattle.smol_types.specs.declared.surface.Panel.{Panel};
+ghost use Rattle.smol_types.specs.declared.wall.Wall.{Wall};
+ghost use Rattle.smol_meaning.specs.declared.sheet.Sheet.TheVariants.{Plane, Rectangle};
+
+use smol_meaning::Sheet;
+use smol_types::{Config, Panel, Wall};
+use std::alloc::{AllocError, Global};
+use std::marker::Model;
+
+/// The panels and walls of a configuration, ready to be looked through. Contracts see them as the configuration's draft.
+#[derive(Drop)]
+pub struct Panels<'a> {
+    config: &'a Config,
+    // Where panels and walls stand, in the order of their numbers. A molecule that meets nothing looks at these alone.
+    sheets: Vec<Sheet>,
+}
+
+impl<'a> Model for Panels<'a> {
+    ghost use Rattle.std.specs.Prelude.{◌≡◌};
+    ghost use Rattle.smol_types.specs.declared.draft.Draft.{Draft};
+    ghost use Rattle.smol_types.specs.Sound.{IsSound};
+    ghost use Rattle.smol_sheets.specs.Sheets.{sheets_of};
+
+    ghost Value = { Draft };
+
+    ghost view = { λ panels. panels.config.now };
+
+    ghost invariant = { λ panels. IsSound panels.config.now × (panels.sheets.items ≡ sheets_of panels.config.now) };
+}
+
+impl<'a> Panels<'a> {
+    ghost use Rattle.std.specs.Prelude.{◌≡◌, ◌+◌, All, IfOk, length};
+    ghost use Rattle.smol_types.specs.Sound.{IsSound};
+    ghost use Rattle.smol_meaning.specs.Folds.{IsSheet};
+    ghost use Rattle.smol_sheets.specs.Sheets.{sheets_of};
+
+    /// The panels and walls of a configuration.
+    pub fn of(alloc: Global, config: &'a Config) -> Result<Panels<'a>, AllocError>
+        ensures { IfOk result (λ panels. panels ≡ config.now) }
+    {
+        let sheets = all_sheets(alloc, config.panels(), config.walls())?;
+        Ok(Panels { config, sheets })
+    }
+
+    /// The configuration.
+    pub fn config(&self) -> &Config
+        ensures value { result.now ≡ self.now }
+        ensures sound { IsSound self.now }
+    {
+        self.config
+    }
+
+    /// Where the panels and walls stand, in the order of their numbers: panels, and walls behind them.
+    pub fn sheets(&self) -> &[Sheet]
+        ensures value { result.now ≡ sheets_of self.now }
+        ensures count { length result.now ≡ length self.now.panels + length self.now.walls }
+        ensures bounds { All IsSheet result.now }
+        ensures sound { IsSound self.now }
+    {
+        self.sheets.as_slice()
+    }
+}
+
+// Where panels stand, and behind them where walls do.
+fn all_sheets(alloc: Global, panels: &[Panel], walls: &[Wall]) -> Result<Vec<Sheet>, AllocError>
+    ensures { IfOk result (λ sheets. sheets.items ≡
+        map (λ (panel : Panel). Rectangle panel.rect) panels.now ++ map (λ (wall : Wall). Plane wall.axis wall.plane) walls.now) }
+{
+    let rectangles = panels
+        .iter()
+        .map(|panel| Sheet::Rectangle { rect: panel.rect });
+    let planes = walls.iter().map(|wall| Sheet::Plane {
+        axis: wall.axis,
+        plane: wall.plane,
+    });
+    rectangles.chain(planes).collect(alloc)
+}
