@@ -1,6 +1,8 @@
 -- From what a source told of a file to the outcome of its contents.
-use Rattle.std.proofs.Common.{◌≡◌, ℕ, ◌+◌, ◌<◌, ◌++◌, List, length, Option, None, Some, IfSome, Result, Ok, Err, IsErrAnd, refl, ap, ◌∙◌, length-append, arith, true, nat_lt}
+use Rattle.std.proofs.Common.{◌≡◌, ℕ, ◌+◌, ◌<◌, ◌++◌, List, length, Option, None, Some, IfSome, Result, Ok, Err, IsErr, IsErrAnd, refl, ap, ◌∙◌, length-append, arith, true, nat_lt}
 use Rattle.std.proofs.lemmas.List.{append-nil}
+use Rattle.smol_edge.specs.declared.take_fault.TakeFault.{TakeFault}
+use Rattle.smol_edge.specs.declared.take_fault.TakeFault.TheVariants as take
 use Rattle.smol_edge.specs.Faults.{Tells}
 use Rattle.smol_edge.specs.Source.{Reading, Opens, TakesAll, TakesFront}
 use Rattle.smol_edge.specs.Outlets.{Written}
@@ -9,6 +11,7 @@ use Rattle.smol_edge.proofs.Telling.{Tells-same}
 use Rattle.smol_types.specs.declared.fault.Kind.TheVariants as kind
 use Rattle.smol_types.specs.Fault.{kind_text}
 use Rattle.smol_config.specs.Reader.{config_of}
+use Rattle.smol_run.specs.declared.refusal.Refusal.{Refusal}
 use Rattle.smol_run.specs.declared.status.Status.{Status}
 use Rattle.smol_run.specs.declared.words.Job.{Job}
 use Rattle.smol_run.specs.declared.loss.Loss.{Loss}
@@ -16,6 +19,7 @@ use Rattle.smol_run.specs.declared.loss.Loss.TheVariants as loss
 use Rattle.smol_run.specs.declared.stop.Stop.{Stop}
 use Rattle.smol_run.specs.Ends.{FitsWords, GoesWith, GoesWithSome, stop_of}
 use Rattle.smol_run.specs.Outcome.{Outcome, misused, outcome_of_file, outcome_of_job, outcome_of_text, refused}
+use Rattle.smol_run.specs.Told.{refusal_of_take}
 use Rattle.smol_run.proofs.Cuts.{cut_at_once}
 
 -- a text that is too long is refused
@@ -90,3 +94,20 @@ pub nothing_yet_of : {E : Type 0} (outcome : Reading → Option Outcome) (why : 
     → IfSome a (λ reading. Tells w w (GoesWithSome (outcome reading) (Err why)))
 nothing_yet_of outcome why None w = tt
 nothing_yet_of outcome why (Some x) w = Tells-same w (GoesWithSome (outcome x) (Err why)) (nothing_yet (outcome x) why)
+
+-- and whatever answer it is that is no status
+pub nothing_yet_by : {E : Type 0} (outcome : Reading → Option Outcome) (result : Result Status E) (a : Option Reading) (w : Option Written)
+    → IsErr result → IfSome a (λ reading. Tells w w (GoesWithSome (outcome reading) result))
+nothing_yet_by outcome (Ok status) a w failed = absurd (cc)
+nothing_yet_by outcome (Err why) a w failed = nothing_yet_of outcome why a w
+
+-- of what keeps a text from being taken, one that is too long alone is refused
+pub refused_is_long : (fault : TakeFault) (refusal : Refusal) → Ok refusal ≡ refusal_of_take fault
+    → (fault ≡ take.TooLong) × (refusal ≡ record { line = 0; kind = kind.TooLong })
+refused_is_long take.TooLong refusal is = (refl, ap (from_ok refusal) is)
+  where
+    from_ok : Refusal → Result Refusal Stop → Refusal
+    from_ok other (Ok refusal) = refusal
+    from_ok other (Err why) = other
+refused_is_long take.ReadFault refusal is = absurd (cc)
+refused_is_long take.OutOfMemory refusal is = absurd (cc)
