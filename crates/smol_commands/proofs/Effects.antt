@@ -9,7 +9,7 @@ use Rattle.std.proofs.lemmas.List.{append-nil}
 use Rattle.smol_types.specs.declared.draft.Draft.{Draft}
 use Rattle.smol_types.specs.declared.state.Mol.{Mol}
 use Rattle.smol_types.specs.declared.state.State.{State}
-use Rattle.smol_types.specs.Limits.{last_serial, most_molecules, most_steps}
+use Rattle.smol_types.specs.Limits.{last_serial, most_molecules}
 use Rattle.smol_types.specs.Commands.{IsCommand}
 use Rattle.smol_types.specs.Sound.{IsSound}
 use Rattle.smol_types.specs.State.{Fits, reach}
@@ -54,9 +54,6 @@ mols_within draft state sound fits i d within =
 pub few_molecules : (draft : Draft) (state : State) → IsSound draft → Fits draft state → length state.mols ≤ most_molecules
 few_molecules draft state sound fits = let count = fits.count in let most = sound.max_below in omega arith
 
-pub few_steps : (draft : Draft) (state : State) → IsSound draft → Fits draft state → state.step ≤ most_steps
-few_steps draft state sound fits = let step = fits.step in let most = sound.steps in omega arith
-
 -- what the command of a number does, by whether its tests hold
 pub performed_by_tests : (draft : Draft) (seed c : ℕ) (state : State) (commands : List Command) (command : Command) (held : Bool) → commands ≡ draft.commands → c < length draft.commands → command ≡ get_or commands c command → list_all (holds_of state.mols) command.tests ≡ held → performed_at draft seed c state ≡ (if held then effect_of draft seed c state command.act else idle state)
 performed_by_tests draft seed c state commands command held same within is tested =
@@ -98,4 +95,4 @@ left_serials draft seed c state left old new (Ok flow) sound fits room performs 
     omega (arith, next, ap (λ (state : State). state.next) performs.state)
 left_serials draft seed c state left old new (Err e) sound fits room performs = tt
 
-pub ruleset performs = (performs_printed, performs_moved, performs_stopped, performs_idle, mols_within, few_molecules, few_steps)
+pub ruleset performs = (performs_printed, performs_moved, performs_stopped, performs_idle, mols_within, few_molecules)

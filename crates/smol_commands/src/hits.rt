@@ -1,6 +1,6 @@
 //! Which of the molecules that a command means it hits by chance.
 ghost use Rattle.std.specs.Prelude.{◌≡◌, ◌≤◌, if◌then◌else◌, not, vec_len};
-ghost use Rattle.smol_types.specs.Limits.{most_molecules, most_steps};
+ghost use Rattle.smol_types.specs.Limits.{most_molecules};
 ghost use Rattle.smol_meaning.specs.Commands.{filter_ranked, is_hit, map_ranked, turned_into};
 
 use crate::meant::is_meant;
@@ -20,7 +20,6 @@ pub struct Chance<'a> {
 impl Chance<'_> {
     // Whether the molecule of this rank is hit. A word is drawn only for a molecule that is meant.
     fn hits(&self, streams: &mut Streams, rank: usize, mol: &Mol) -> bool
-        requires step { self.now.step ≤ most_steps }
         requires rank { rank ≤ most_molecules }
         ensures value { result ≡ is_hit streams.old self.now.command self.now.step self.now.who.now self.now.p rank mol.now }
         ensures seed { streams.new ≡ streams.old }
@@ -34,7 +33,6 @@ impl Chance<'_> {
 
     /// Removes the molecules that are hit.
     pub fn kill(&self, streams: &mut Streams, mols: &mut Vec<Mol>)
-        requires step { self.now.step ≤ most_steps }
         requires few { vec_len mols.old ≤ most_molecules }
         ensures left { mols.new.items
             ≡ filter_ranked (λ rank mol.
@@ -54,7 +52,6 @@ impl Chance<'_> {
 
     /// Turns the molecules that are hit into another species. Each keeps its serial and its place.
     pub fn replace(&self, streams: &mut Streams, to: u16, mols: &mut Vec<Mol>)
-        requires step { self.now.step ≤ most_steps }
         requires few { vec_len mols.old ≤ most_molecules }
         ensures turned { mols.new.items
             ≡ map_ranked (λ rank mol.

@@ -1,6 +1,6 @@
 //! What commands do to the molecules of a state.
 ghost use Rattle.std.specs.Prelude.{◌≡◌, ◌+◌, ◌^◌, ◌≤◌, ◌<◌, ◌++◌, [], IsErrOf, IsOk, OnOk, filter, if◌then◌else◌, length, not};
-ghost use Rattle.smol_types.specs.Limits.{most_molecules, most_steps};
+ghost use Rattle.smol_types.specs.Limits.{most_molecules};
 ghost use Rattle.smol_meaning.specs.Commands.{filter_ranked, is_hit, is_meant, map_ranked, molecules_at, turned_into, with_mols, with_more};
 
 use crate::command_fault::CommandFault;
@@ -38,7 +38,6 @@ fn leave_others(who: &[u16], mols: &mut Vec<Mol>)
 
 /// Removes the molecules that are hit.
 pub fn kill_hit(alloc: Global, chance: &Chance, streams: &mut Streams, state: &mut State)
-    requires step { chance.now.step ≤ most_steps }
     requires few { length state.old.mols ≤ most_molecules }
     ensures left { state.new
         ≡ with_mols state.old (filter_ranked (λ rank mol.
@@ -58,7 +57,6 @@ pub fn replace_hit(
     to: u16,
     state: &mut State,
 )
-    requires step { chance.now.step ≤ most_steps }
     requires few { length state.old.mols ≤ most_molecules }
     ensures turned { state.new
         ≡ with_mols state.old (map_ranked (λ rank mol.

@@ -6,7 +6,7 @@ use Rattle.std.proofs.lemmas.Option.{slice_get_past, slice_get-get_or}
 use Rattle.smol_geom.specs.declared.place.Place.{Place}
 use Rattle.smol_types.specs.declared.draft.Draft.{Draft}
 use Rattle.smol_types.specs.declared.placing.Given.{Given}
-use Rattle.smol_types.specs.declared.placing.Given.TheVariants.{Any, At}
+use Rattle.smol_types.specs.declared.placing.Given.TheVariants.{Any}
 use Rattle.smol_types.specs.declared.wall.Wall.{Wall}
 use Rattle.smol_types.specs.Limits.{farthest}
 use Rattle.smol_types.specs.Walls.{AreWalls, IsAxis}
@@ -69,14 +69,6 @@ pub unused_there : (walls : List Wall) (seed serial try axis : ℕ) → length w
 unused_there walls seed serial try axis past =
     ap (λ (upper : Option Wall). coordinate_between seed serial try axis (slice_get walls (2 * axis)) upper Any) (slice_get_past walls (2 * axis + 1) past)
     ∙ between_none seed serial try axis (slice_get walls (2 * axis)) Any
-
-pub given_there : (walls : List Wall) (seed serial try axis : ℕ) (x : ℤ) → coordinate_on walls seed serial try axis (At x) ≡ x
-given_there walls seed serial try axis x = cases (slice_get walls (2 * axis)) (slice_get walls (2 * axis + 1))
-  where
-    cases : (lower upper : Option Wall) → coordinate_between seed serial try axis lower upper (At x) ≡ x
-    cases None upper = refl
-    cases (Some lower) None = refl
-    cases (Some lower) (Some upper) = refl
 
 -- the three coordinates of a place
 pub three_coordinates : (walls : List Wall) (seed serial try : ℕ) (x y z : Given)

@@ -19,9 +19,6 @@ pub together-together : (front back : List Mol) (rest : Result (List Mol) NoPlac
 together-together front back (Ok more) = ap (λ (mols : List Mol). Ok mols) (sym (append_assoc front back more))
 together-together front back (Err fault) = refl
 
-pub together-err : (front : List Mol) (fault : NoPlace) → placed_together (Ok front) (Err fault) ≡ Err fault
-together-err front fault = refl
-
 module _ (draft : Draft) (seed : ℕ) (placing : Placing) (serial : ℕ) where
   -- what is left of a statement, with its next molecule
   pub many_next : (i n : ℕ) → i < n
