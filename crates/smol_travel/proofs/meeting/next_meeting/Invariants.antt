@@ -1,6 +1,7 @@
 use Rattle.std.proofs.Common.{take}
-use Rattle.smol_travel.specs.Meetings.{IsNext, rect_sheets}
-use Rattle.smol_travel.proofs.meeting.next_of_rects.Given as goal
+use Rattle.smol_travel.specs.Meetings.{IsNext}
+use Rattle.smol_travel.proofs.meeting.next_meeting.Given as goal
 
-abbrev pub invariant-loop-rect : goal.invariant-loop-rect
-invariant-loop-rect l = IsNext (take l.rect-index (rect_sheets l.rects)) l.from l.by l.fold l.last l.next
+-- the next meeting among the panels and walls looked at so far
+abbrev pub invariant-loop-sheet : goal.invariant-loop-sheet
+invariant-loop-sheet l = IsNext (take l.sheet-index l.sheets) l.leg l.last l.next
