@@ -1,5 +1,7 @@
 //! Where a panel or a wall stands.
-ghost use Rattle.std.specs.Prelude.{◌≡◌, ◌<◌, ◌^◌};
+ghost use Rattle.std.specs.Prelude.{◌≡◌, ◌<◌, ◌≤◌, ◌^◌, unsigned_abs};
+ghost use Rattle.smol_geom.specs.Axes.{IsEven};
+ghost use Rattle.smol_types.specs.Limits.{farthest};
 ghost use Rattle.smol_meaning.specs.Folds.{IsSheet};
 ghost use Rattle.smol_meaning.specs.Plates.{sheet_axis, sheet_plane};
 ghost use Rattle.smol_meaning.specs.Sight.{line_meets};
@@ -23,7 +25,9 @@ pub fn axis_of(sheet: &Sheet) -> u8
 /// Its one coordinate on that axis, in ticks.
 pub fn plane_of(sheet: &Sheet) -> i64
     requires { IsSheet sheet.now }
-    ensures { result ≡ sheet_plane sheet.now }
+    ensures value { result ≡ sheet_plane sheet.now }
+    ensures size { unsigned_abs result ≤ farthest }
+    ensures even { IsEven result }
 {
     match sheet {
         Sheet::Rectangle { rect } => rect.low[rect.axis as usize],

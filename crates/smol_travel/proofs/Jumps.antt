@@ -1,7 +1,7 @@
 -- Jumps of plates aren't long.
-use Rattle.std.proofs.Common.{⊎_elim, ◌≡◌, ℕ, ◌^◌, ◌<◌, ◌≤◌, Bool, List, sym, subst, arith, ℤ, pos, ◌+ℤ◌, unsigned_abs}
+use Rattle.std.proofs.Common.{⊎_elim, ◌≡◌, ℕ, ◌^◌, ◌<◌, ◌≤◌, List, sym, subst, arith, ℤ, pos, ◌+ℤ◌, unsigned_abs}
 use Rattle.std.specs.Prelude.{All}
-use Rattle.std.proofs.lemmas.Bool.{cond_both, cases_eq}
+use Rattle.std.proofs.lemmas.Bool.{cases_eq}
 use Rattle.std.proofs.lemmas.Int.{ints}
 use Rattle.smol_geom.specs.declared.place.Place.{Place}
 use Rattle.smol_geom.specs.declared.place.Step3.{Step3}
@@ -11,13 +11,15 @@ use Rattle.smol_geom.specs.Axes.{on_axis}
 use Rattle.smol_geom.proofs.EachAxis.{at_axis}
 use Rattle.smol_geom.proofs.Lists.{all_had}
 use Rattle.smol_types.specs.Limits.{farthest}
+use Rattle.smol_meaning.specs.declared.way.Effect.{Effect}
 use Rattle.smol_meaning.specs.declared.way.Response.{Response}
 use Rattle.smol_meaning.specs.declared.way.Response.TheVariants.{Reflect, Absorb, Jump, Pass}
 use Rattle.smol_meaning.specs.Folds.{IsSheet, IsPlate, IsResponse, IsJump}
 use Rattle.smol_meaning.specs.declared.sheet.Sheet.{Sheet}
 use Rattle.smol_meaning.specs.declared.sheet.Sheet.TheVariants.{Rectangle, Plane}
-use Rattle.smol_meaning.specs.Plates.{Plate, goes_up, response_of, responses_met, deciding}
-use Rattle.smol_meaning.proofs.Bounds.{Decides, decided_by}
+use Rattle.smol_meaning.specs.Plates.{Plate, goes_up}
+use Rattle.smol_meaning.specs.Way.{deciding_at}
+use Rattle.smol_meaning.proofs.Bounds.{Decides, decided_by, unmet}
 use Rattle.smol_travel.specs.Meetings.{IsSmallJump}
 
 short : (low b : ℤ) → unsigned_abs low ≤ farthest → unsigned_abs (low +ℤ b) ≤ farthest → unsigned_abs b ≤ 2 ^ 42
@@ -42,13 +44,15 @@ response_short dims sheet (Jump by up) is fits =
     (jump_short dims sheet by is fits 0 (omega arith), jump_short dims sheet by is fits 1 (omega arith), jump_short dims sheet by is fits 2 (omega arith))
 response_short dims sheet Pass is fits = tt
 
-plate_short : (dims : ℕ) (plate : Plate) (up : Bool) → IsPlate dims plate → IsSmallJump (response_of plate up)
-plate_short dims plate up fit =
-    cond_both up plate.from_below plate.from_above IsSmallJump (λ u. response_short dims plate.sheet plate.from_below fit.sheet fit.below) (λ u. response_short dims plate.sheet plate.from_above fit.sheet fit.above)
-
-pub decides_short : (dims : ℕ) (plates : List Plate) (from : Place) (by : Step3) (f : Fold) (m : Moment) → All (IsPlate dims) plates
-    → IsSmallJump (deciding (responses_met plates from by f m))
-decides_short dims plates from by f m all = ⊎_elim
-    (λ (e : deciding (responses_met plates from by f m) ≡ Pass). subst IsSmallJump (sym e) tt)
-    (λ (d : Decides plates from by f m (deciding (responses_met plates from by f m))). subst IsSmallJump d.is (plate_short dims d.plate (goes_up by f m.axis) (all_had (IsPlate dims) plates d.plate d.listed all)))
-    (decided_by plates from by f m)
+-- nor is that of what decides at a moment
+pub decides_short : (dims : ℕ) (plates : List Plate) (from : Place) (by : Step3) (f : Fold) (m : Moment) (species : ℕ) → All (IsPlate dims) plates
+    → IsSmallJump (deciding_at plates from by f m species).response
+decides_short dims plates from by f m species all = ⊎_elim
+    (λ (e : effect ≡ unmet species). subst (λ (one : Effect). IsSmallJump one.response) (sym e) tt)
+    (λ (d : Decides plates from by f m species effect).
+    let fit = all_had (IsPlate dims) plates d.plate d.listed all in
+    subst (λ (one : Effect). IsSmallJump one.response) d.is (response_short dims d.plate.sheet _ fit.sheet (fit.responses (goes_up by f m.axis) species)))
+    (decided_by plates from by f m species)
+  where
+    effect : Effect
+    effect = deciding_at plates from by f m species

@@ -1,35 +1,41 @@
 -- What a look at axis and plane says of a meeting.
-use Rattle.std.proofs.Common.{◌≡◌, ℕ, ◌↔◌, Bool, true, false, IsTrue, refl, sym, ◌∙◌, ℤ}
-use Rattle.std.proofs.lemmas.Bool.{both_ways, eq-eqb, false_from_ne_true}
-use Rattle.smol_geom.specs.declared.place.Place.{Place}
-use Rattle.smol_geom.specs.declared.place.Step3.{Step3}
+use Rattle.std.proofs.Common.{◌≡◌, ℕ, ◌↔◌, Bool, true, false, IsTrue, sym, ℤ}
+use Rattle.std.proofs.lemmas.Bool.{eq-eqb, false_from_ne_true}
 use Rattle.smol_geom.specs.declared.moment.Moment.{Moment}
-use Rattle.smol_geom.specs.declared.fold.Fold.{Fold}
 use Rattle.smol_geom.specs.declared.rect.Rect.{Rect}
 use Rattle.smol_geom.specs.Axes.{on_axis}
 use Rattle.smol_geom.specs.Fold.{IsSign, true_point}
 use Rattle.smol_geom.specs.Moment.{part_of}
 use Rattle.smol_geom.specs.Moments.{IsMoment}
-use Rattle.smol_geom.specs.Rect.{HoldsPoint, IsRect}
+use Rattle.smol_geom.specs.Rect.{HoldsPoint}
+use Rattle.smol_geom.proofs.EachAxis.{at_axis}
+use Rattle.smol_meaning.specs.declared.sheet.Sheet.{Sheet}
 use Rattle.smol_meaning.specs.declared.sheet.Sheet.TheVariants.{Rectangle, Plane}
-use Rattle.smol_meaning.specs.Plates.{is_met, plane_at}
+use Rattle.smol_meaning.specs.Folds.{IsSheet}
+use Rattle.smol_meaning.specs.Plates.{sheet_axis, sheet_plane}
+use Rattle.smol_meaning.proofs.Bounds.{flat_sheet}
 use Rattle.smol_meaning.proofs.Planes.{met_plane, plane_met}
+use Rattle.smol_travel.specs.declared.leg.Leg.{Leg}
+use Rattle.smol_travel.specs.Legs.{IsLeg, meets, plane_on}
 use Rattle.smol_travel.proofs.Scan.{holds_agrees}
 
-module _ (from : Place) (by : Step3) (f : Fold) (m : Moment) (sign : IsSign (on_axis f.sign m.axis)) (is : IsMoment from by m) where
+module _ (leg : Leg) (is_leg : IsLeg leg) (m : Moment) (is : IsMoment leg.from leg.by m) where
+  sign : IsSign (on_axis leg.fold.sign m.axis)
+  sign = at_axis (λ j. IsSign (on_axis leg.fold.sign j)) m.axis is.axis is_leg.fold.fold
+
+  -- a sheet that is met lies across the axis of the moment, at the plane of the moment
+  pub met_at : (sheet : Sheet) → IsSheet sheet → meets leg m sheet ≡ true → (m.axis ≡ sheet_axis sheet) × (plane_on leg m ≡ sheet_plane sheet)
+  met_at sheet fits met = met_plane leg.from leg.by leg.fold m sign is sheet (flat_sheet sheet fits) met
+
+  -- elsewhere it isn't met
+  pub apart : (sheet : Sheet) → IsSheet sheet → (sheet_axis sheet ≡ m.axis → sheet_plane sheet ≡ plane_on leg m → ⊥) → false ≡ meets leg m sheet
+  apart sheet fits elsewhere =
+      sym (false_from_ne_true (meets leg m sheet) (λ e. let at = met_at sheet fits e in elsewhere (sym at.0) (sym at.1)))
+
   -- across the axis of the moment, a rectangle is met where it holds the true point
-  pub rect_agrees : (rect : Rect) (t : Bool) → rect.axis ≡ m.axis → (IsTrue t ↔ HoldsPoint rect (true_point f from by (part_of m))) → t ≡ is_met from by f m (Rectangle rect)
-  rect_agrees rect t axis says = rw (eq-eqb rect.axis m.axis axis) (holds_agrees rect (true_point f from by (part_of m)) t says)
+  pub rect_agrees : (rect : Rect) (t : Bool) → m.axis ≡ rect.axis → (IsTrue t ↔ HoldsPoint rect (true_point leg.fold leg.from leg.by (part_of m))) → t ≡ meets leg m (Rectangle rect)
+  rect_agrees rect t axis says = rw (eq-eqb rect.axis m.axis (sym axis)) (holds_agrees rect (true_point leg.fold leg.from leg.by (part_of m)) t says)
 
-  -- at another plane it isn't met
-  pub rect_apart : (rect : Rect) (plane : ℤ) → IsRect rect → plane ≡ plane_at from by f m → ((rect.axis ≡ m.axis) × (on_axis rect.low rect.axis ≡ plane) → ⊥)
-      → false ≡ is_met from by f m (Rectangle rect)
-  rect_apart rect plane shape here apart =
-      sym (false_from_ne_true (is_met from by f m (Rectangle rect)) (λ e. let at = met_plane from by f m sign is (Rectangle rect) shape e in apart (sym at.0, sym at.1 ∙ sym here)))
-
-  pub wall_agrees : (axis : ℕ) (own plane : ℤ) (t : Bool) → plane ≡ plane_at from by f m → (IsTrue t ↔ ((axis ≡ m.axis) × (own ≡ plane))) → t ≡ is_met from by f m (Plane axis own)
-  wall_agrees axis own plane true here says = let at = says.0 refl in sym (plane_met from by f m sign is axis own at.0 (at.1 ∙ here))
-  wall_agrees axis own plane false here says =
-      sym (false_from_ne_true (is_met from by f m (Plane axis own)) (λ e.
-      let at = met_plane from by f m sign is (Plane axis own) tt e in
-      both_ways false refl (says.1 (sym at.0, sym at.1 ∙ sym here))))
+  -- and a wall is met where it is at the plane of the moment
+  pub wall_agrees : (axis : ℕ) (plane : ℤ) → m.axis ≡ axis → plane_on leg m ≡ plane → true ≡ meets leg m (Plane axis plane)
+  wall_agrees axis plane across there = sym (plane_met leg.from leg.by leg.fold m sign is axis plane (sym across) (sym there))

@@ -1,19 +1,18 @@
 -- Between which coordinates a move is, and that nothing outside of that is met.
-use Rattle.std.proofs.Common.{⊎_elim, ◌≡◌, ℕ, ◌<◌, ◌↔◌, Bool, true, false, IsTrue, ◌⊎◌, inl, inr, List, refl, sym, subst, arith, ℤ, pos, negsuc, ◌+ℤ◌, ◌*ℤ◌, ◌≤ℤ◌, unsigned_abs}
+use Rattle.std.proofs.Common.{⊎_elim, ◌≡◌, ℕ, ◌<◌, ◌↔◌, Bool, true, false, IsTrue, ◌⊎◌, inl, inr, List, refl, sym, ◌∙◌, subst, arith, ℤ, pos, negsuc, ◌+ℤ◌, ◌*ℤ◌, ◌≤ℤ◌, unsigned_abs}
 use Rattle.std.proofs.lemmas.Bool.{both_ways, lt-ltb}
 use Rattle.std.proofs.lemmas.Int.{ints}
-use Rattle.smol_geom.specs.declared.place.Place.{Place}
-use Rattle.smol_geom.specs.declared.place.Step3.{Step3}
 use Rattle.smol_geom.specs.declared.moment.Moment.{Moment}
-use Rattle.smol_geom.specs.declared.fold.Fold.{Fold}
 use Rattle.smol_geom.specs.Axes.{on_axis, EachAxis}
-use Rattle.smol_geom.specs.Fold.{IsFold, IsSign}
+use Rattle.smol_geom.specs.Fold.{IsSign}
 use Rattle.smol_geom.specs.Moments.{IsMoment, coordinate_from, coordinate_after, ticks}
 use Rattle.smol_geom.proofs.EachAxis.{at_axis}
 use Rattle.smol_meaning.specs.declared.sheet.Sheet.{Sheet}
-use Rattle.smol_meaning.specs.Plates.{is_met, plane_at, sheet_axis, sheet_plane}
-use Rattle.smol_meaning.proofs.Planes.{IsFlat, met_plane}
-use Rattle.smol_travel.specs.Meetings.{IsBetween, IsSpan}
+use Rattle.smol_meaning.specs.Folds.{IsSheet}
+use Rattle.smol_meaning.specs.Plates.{sheet_axis, sheet_plane}
+use Rattle.smol_travel.specs.declared.leg.Leg.{Leg}
+use Rattle.smol_travel.specs.Legs.{IsBetween, IsLeg, IsSpan, meets, plane_on}
+use Rattle.smol_travel.proofs.Meets.{met_at}
 
 -- ticks strictly within a way lead between its ends
 within_way : (start way x : ℤ) (n : ℕ) → 0 < n → n < unsigned_abs way → coordinate_from start way n ≡ x
@@ -67,21 +66,20 @@ module _ (s start way shift first last : ℤ) (sign : IsSign s) (first_is : firs
   ends_down order = in_order _ _ _ order (either_way _ _ _ ends)
 
 -- on an axis, all that ticks strictly within the move lead to is between the two
-abbrev pub SpansOn : Place → Step3 → Fold → List ℤ → List ℤ → ℕ → Type 0
-SpansOn from by f low high axis =
-    (n : ℕ) → 0 < n → n < ticks by axis
-    → IsBetween (on_axis low axis) (on_axis high axis) (on_axis f.sign axis *ℤ coordinate_after from by axis n +ℤ on_axis f.shift axis)
+abbrev pub SpansOn : Leg → List ℤ → List ℤ → ℕ → Type 0
+SpansOn leg low high axis =
+    (n : ℕ) → 0 < n → n < ticks leg.by axis
+    → IsBetween (on_axis low axis) (on_axis high axis) (on_axis leg.fold.sign axis *ℤ coordinate_after leg.from leg.by axis n +ℤ on_axis leg.fold.shift axis)
 
-pub span_from : (from : Place) (by : Step3) (f : Fold) (low high : List ℤ) → EachAxis (SpansOn from by f low high) → IsSpan from by f low high
-span_from from by f low high each =
-    record { between = λ m is. at_axis (SpansOn from by f low high) m.axis is.axis each m.num is.begun (omega (arith, is.unfinished, is.den)) }
+pub span_from : (leg : Leg) (low high : List ℤ) → EachAxis (SpansOn leg low high) → IsSpan leg low high
+span_from leg low high each =
+    record { between = λ m is. at_axis (SpansOn leg low high) m.axis is.axis each m.num is.begun (omega (arith, is.unfinished, is.den)) }
 
 -- a sheet whose plane is outside the span is never met
-pub never_met : (from : Place) (by : Step3) (f : Fold) (low high : List ℤ) (sheet : Sheet) (t : Bool) → IsFlat sheet → IsFold f → IsSpan from by f low high
-    → (IsTrue t ↔ IsBetween (on_axis low (sheet_axis sheet)) (on_axis high (sheet_axis sheet)) (sheet_plane sheet)) → t ≡ false
-    → (m : Moment) → IsMoment from by m → is_met from by f m sheet ≡ true → ⊥
-never_met from by f low high sheet t flat fold span says out m is met =
-    let sign = at_axis (λ j. IsSign (on_axis f.sign j)) m.axis is.axis fold in
-    let at = met_plane from by f m sign is sheet flat met in
-    let there = subst (λ k. IsBetween (on_axis low k) (on_axis high k) (plane_at from by f m)) at.0 (span.between m is) in
-    both_ways t out (says.1 (subst (λ z. IsBetween (on_axis low (sheet_axis sheet)) (on_axis high (sheet_axis sheet)) z) at.1 there))
+pub never_met : (leg : Leg) (low high : List ℤ) (sheet : Sheet) (axis : ℕ) (plane : ℤ) (t : Bool) → IsSheet sheet → IsLeg leg → IsSpan leg low high
+    → axis ≡ sheet_axis sheet → plane ≡ sheet_plane sheet → (IsTrue t ↔ IsBetween (on_axis low axis) (on_axis high axis) plane) → t ≡ false
+    → (m : Moment) → IsMoment leg.from leg.by m → meets leg m sheet ≡ true → ⊥
+never_met leg low high sheet axis plane t fits is_leg span across there says out m is met =
+    let at = met_at leg is_leg m is sheet fits met in
+    let within = subst (λ k. IsBetween (on_axis low k) (on_axis high k) (plane_on leg m)) (at.0 ∙ sym across) (span.between m is) in
+    both_ways t out (says.1 (subst (λ z. IsBetween (on_axis low axis) (on_axis high axis) z) (at.1 ∙ sym there) within))

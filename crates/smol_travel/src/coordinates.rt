@@ -2,7 +2,8 @@
 ghost use Rattle.std.specs.Prelude.{◌≡◌, ◌↔◌, ℕ, ◌<◌, ◌≤◌, ◌+◌, ◌^◌, IfSome, IsTrue, int_lt, neg_ℤ, ◌*ℤ◌, ◌-ℤ◌, ◌+ℤ◌, pos, unsigned_abs};
 ghost use Rattle.smol_geom.specs.Fold.{IsSign};
 ghost use Rattle.smol_geom.specs.Moments.{coordinate_from};
-ghost use Rattle.smol_travel.specs.Meetings.{IsBetween, IsSameWay};
+ghost use Rattle.smol_travel.specs.Legs.{IsBetween};
+ghost use Rattle.smol_travel.specs.Meetings.{IsSameWay};
 
 // How many ticks of a way lead from its start to a coordinate strictly within it.
 pub fn ticks_to(start: i64, way: i64, goal: i64) -> Option<u64>
@@ -99,15 +100,6 @@ pub fn sum(a: i64, b: i64) -> i64
     ensures size { unsigned_abs result ≤ 2 ^ 60 }
 {
     a + b
-}
-
-pub fn difference(a: i64, b: i64) -> i64
-    requires a { unsigned_abs a ≤ 2 ^ 41 }
-    requires b { unsigned_abs b ≤ 2 ^ 41 }
-    ensures value { result ≡ a -ℤ b }
-    ensures size { unsigned_abs result ≤ 2 ^ 42 }
-{
-    a - b
 }
 
 // Where a fold carries the end of a whole way.

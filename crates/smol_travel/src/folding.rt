@@ -1,44 +1,41 @@
-//! What responses make of a fold.
+//! What effects make of a fold.
 ghost use Rattle.std.specs.Prelude.{◌≡◌, ◌<◌, ◌≤◌, ◌^◌, unsigned_abs};
 ghost use Rattle.smol_geom.specs.Axes.{IsWithin};
 ghost use Rattle.smol_geom.specs.Fold.{IsFold};
 ghost use Rattle.smol_geom.specs.Moments.{IsMoment};
-ghost use Rattle.smol_meaning.specs.Folds.{IsSmallFold};
-ghost use Rattle.smol_meaning.specs.Plates.{done_by, jumped, mirrored, shifted};
-ghost use Rattle.smol_meaning.specs.Way.{end_place};
+ghost use Rattle.smol_meaning.specs.Plates.{are_same, jumped, mirrored, shifted};
+ghost use Rattle.smol_meaning.specs.Way.{after_effect};
+ghost use Rattle.smol_travel.specs.Legs.{IsLeg};
 ghost use Rattle.smol_travel.specs.Meetings.{IsSmallJump};
 
-use crate::coordinates::{end_on, mirrored_shift, opposite, sum};
-use crate::meeting::plane_at;
-use crate::responses::{are_same, goes_up};
-use smol_geom::{Fold, Moment, Place, Step3};
-use smol_meaning::{Response, Standing};
+use crate::coordinates::{mirrored_shift, opposite, sum};
+use crate::leg::{Leg, goes_up, plane_at};
+use smol_geom::{Fold, Moment};
+use smol_meaning::{Effect, Response, Standing};
 
-// What a response makes of a fold at a moment.
-pub fn done(from: &Place, by: &Step3, fold: &Fold, moment: &Moment, response: Response) -> Standing
-    requires from { IsWithin (2 ^ 57) from.now.0 }
-    requires by { IsWithin (2 ^ 34) by.now.0 }
-    requires fold { IsSmallFold fold.now }
-    requires moment { IsMoment from.now by.now moment.now }
-    requires response { IsSmallJump response }
-    ensures { result ≡ done_by from.now by.now fold.now moment.now response }
+// What an effect makes of the fold at a moment, and of the species.
+pub fn done(leg: &Leg, moment: &Moment, effect: Effect) -> Standing
+    requires leg { IsLeg leg.now }
+    requires moment { IsMoment leg.now.from leg.now.by moment.now }
+    requires jump { IsSmallJump effect.response }
+    ensures { result ≡ after_effect leg.now.from leg.now.by leg.now.fold moment.now effect }
 {
-    match response {
+    let species = effect.species;
+    match effect.response {
         Response::Reflect => {
-            let plane = plane_at(from, by, fold, moment);
-            Standing::Goes {
-                fold: mirrored(fold, moment.axis, plane),
-            }
+            let fold = mirrored(&leg.fold, moment.axis, plane_at(leg, moment));
+            Standing::Goes { fold, species }
         }
         Response::Absorb { number } => Standing::Gone { number },
-        Response::Jump { by: shift, up } => {
-            let plane = plane_at(from, by, fold, moment);
-            let goes = goes_up(by, fold, moment);
-            Standing::Goes {
-                fold: jumped(fold, moment.axis, plane, shift, up, goes),
-            }
+        Response::Jump { by, up } => {
+            let plane = plane_at(leg, moment);
+            let fold = jumped(&leg.fold, moment.axis, plane, by, up, goes_up(leg, moment));
+            Standing::Goes { fold, species }
         }
-        Response::Pass => Standing::Goes { fold: *fold },
+        Response::Pass => Standing::Goes {
+            fold: leg.fold,
+            species,
+        },
     }
 }
 
@@ -89,16 +86,9 @@ fn jumped(fold: &Fold, axis: u8, plane: i64, by: [i64; 3], up: bool, goes: bool)
     }
 }
 
-// Where the fold of a whole move ends.
-pub fn end_of(fold: &Fold, from: &Place, by: &Step3) -> Place
-    requires fold { IsSmallFold fold.now }
-    requires from { IsWithin (2 ^ 57) from.now.0 }
-    requires by { IsWithin (2 ^ 34) by.now.0 }
-    ensures { result ≡ end_place from.now by.now fold.now }
+// Whether two answers are one.
+fn are_same(a: bool, b: bool) -> bool
+    ensures { result ≡ are_same a b }
 {
-    Place([
-        end_on(fold.sign[0], from.0[0], by.0[0], fold.shift[0]),
-        end_on(fold.sign[1], from.0[1], by.0[1], fold.shift[1]),
-        end_on(fold.sign[2], from.0[2], by.0[2], fold.shift[2]),
-    ])
+    if a { b } else { !b }
 }

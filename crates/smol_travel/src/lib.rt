@@ -2,14 +2,14 @@
 #![tactic(auto)]
 
 mod coordinates;
+mod decision;
 mod folding;
+mod leg;
 mod meeting;
-mod panels;
-mod responses;
 mod walk;
 
-pub use panels::Panels;
 pub use smol_meaning::Travelled;
+pub use smol_sheets::Panels;
 pub use walk::travel;
 
 #[cfg(test)]

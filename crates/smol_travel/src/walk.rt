@@ -1,21 +1,22 @@
-ghost use Rattle.std.specs.Prelude.{◌≡◌, ◌<◌, length};
+ghost use Rattle.std.specs.Prelude.{◌≡◌, ℕ, ◌<◌, Bool, length, true};
 ghost use Rattle.smol_geom.specs.declared.cuboid.Cuboid.{Cuboid};
 ghost use Rattle.smol_geom.specs.Moments.{IsMoment};
-ghost use Rattle.smol_types.specs.Sound.{IsSound};
+ghost use Rattle.smol_meaning.specs.declared.way.Standing.TheVariants.{Goes};
 ghost use Rattle.smol_meaning.specs.Box.{Confines, EndsInside, IsClosed, IsInside};
 ghost use Rattle.smol_meaning.specs.Crossing.{CrossesNone};
 ghost use Rattle.smol_meaning.specs.Folds.{FoldFits, StandingFits};
 ghost use Rattle.smol_meaning.specs.Moves.{IsMove, EndsWithin};
-ghost use Rattle.smol_meaning.specs.Plates.{deciding, done_by, responses_met};
 ghost use Rattle.smol_meaning.specs.Seen.{plates_of, way};
+ghost use Rattle.smol_meaning.specs.Way.{after_moment};
+ghost use Rattle.smol_travel.specs.Meetings.{IsOfSpecies};
 
-use crate::folding::{done, end_of};
+use crate::decision::decision;
+use crate::folding::done;
+use crate::leg::{Leg, end_of};
 use crate::meeting::next_meeting;
-use crate::responses::decision;
 use crate::{Panels, Travelled};
 use smol_geom::{Fold, Moment, Place, Step3};
 use smol_meaning::Standing;
-use smol_types::Config;
 
 const STRAIGHT: Fold = Fold {
     sign: [1, 1, 1],
@@ -33,46 +34,44 @@ pub fn travel(panels: &Panels, species: u16, from: Place, by: Step3) -> Travelle
     requires species { species < length panels.now.species }
     requires moving { IsMove panels.now.dims from by }
     ensures way { result ≡ way panels.now species from by }
-    ensures crosses_none { CrossesNone (plates_of panels.now species) from by }
+    ensures crosses_none { CrossesNone (plates_of panels.now) species from by }
     ensures end { EndsWithin panels.now.dims from by result }
-    ensures confined { (box : Cuboid) → IsClosed panels.now.dims (plates_of panels.now species) box → IsInside box from
-        → Confines (plates_of panels.now species) from by box }
-    ensures inside { (box : Cuboid) → IsClosed panels.now.dims (plates_of panels.now species) box → IsInside box from
+    ensures confined { (among : ℕ → Bool) (box : Cuboid) → among species ≡ true
+        → IsClosed panels.now.dims (plates_of panels.now) among box → IsInside box from
+        → Confines (plates_of panels.now) species from by box }
+    ensures inside { (among : ℕ → Bool) (box : Cuboid) → among species ≡ true
+        → IsClosed panels.now.dims (plates_of panels.now) among box → IsInside box from
         → EndsInside box result }
 {
-    let config = panels.config();
     let mut fold = STRAIGHT;
+    let mut present = species;
     let mut last = BEGINNING;
-    while let Some(next) = next_meeting(panels, &from, &by, &fold, &last) {
-        match outcome(config, species, &from, &by, &fold, &next) {
-            Standing::Goes { fold: changed } => {
+    while let Some(next) = next_meeting(panels, &Leg { from, by, fold }, &last) {
+        match outcome(panels, &Leg { from, by, fold }, &next, present) {
+            Standing::Goes {
+                fold: changed,
+                species: made,
+            } => {
                 fold = changed;
+                present = made;
                 last = next;
             }
             Standing::Gone { number } => return Travelled::Absorbed(number),
         }
     }
-    Travelled::At(end_of(&fold, &from, &by))
+    Travelled::At(end_of(&Leg { from, by, fold }))
 }
 
-// What the moment makes of the fold.
-fn outcome(
-    config: &Config,
-    species: u16,
-    from: &Place,
-    by: &Step3,
-    fold: &Fold,
-    moment: &Moment,
-) -> Standing
-    requires species { species < length config.now.species }
-    requires sound { IsSound config.now }
-    requires moving { IsMove config.now.dims from.now by.now }
-    requires fold { FoldFits config.now.dims from.now by.now fold.now }
-    requires moment { IsMoment from.now by.now moment.now }
-    ensures value { result ≡ done_by from.now by.now fold.now moment.now
-        (deciding (responses_met (plates_of config.now species) from.now by.now fold.now moment.now)) }
-    ensures fits { StandingFits config.now.dims from.now by.now result }
+// What the moment makes of the fold and of the species.
+fn outcome(panels: &Panels, leg: &Leg, moment: &Moment, species: u16) -> Standing
+    requires moving { IsMove panels.now.dims leg.now.from leg.now.by }
+    requires fold { FoldFits panels.now.dims leg.now.from leg.now.by leg.now.fold }
+    requires moment { IsMoment leg.now.from leg.now.by moment.now }
+    requires species { species < length panels.now.species }
+    ensures value { result ≡ after_moment (plates_of panels.now) leg.now.from leg.now.by (Goes leg.now.fold species) moment.now }
+    ensures fits { StandingFits panels.now.dims leg.now.from leg.now.by result }
+    ensures known { IsOfSpecies panels.now result }
 {
-    let response = decision(config, species, from, by, fold, moment);
-    done(from, by, fold, moment, response)
+    let effect = decision(panels, leg, moment, species);
+    done(leg, moment, effect)
 }

@@ -1,4 +1,4 @@
-use Rattle.std.proofs.Common.{ℕ, ◌-ℤ◌, unsigned_abs, FitsSigned, w64, Some, refl, ◌∙◌, ap, arith, false}
+use Rattle.std.proofs.Common.{ℕ, ◌-ℤ◌, FitsSigned, w64, Some, refl, ◌∙◌, ap, arith}
 use Rattle.std.proofs.lemmas.Bool.{both_ways}
 use Rattle.std.proofs.lemmas.Int.{ints, to_z-of_z}
 use Rattle.smol_geom.proofs.Sizes.{small_fits}

@@ -1,27 +1,28 @@
-use Rattle.std.proofs.Common.{ap, sym, subst, ◌∙◌}
-use Rattle.std.specs.Prelude.{All, map}
-use Rattle.smol_types.specs.declared.surface.Panel.{Panel}
-use Rattle.smol_types.specs.declared.wall.Wall.{Wall}
-use Rattle.smol_meaning.specs.Folds.{IsPanelRect, IsWallPlane}
-use Rattle.smol_meaning.proofs.Seeing.{rects_fit, wall_planes_fit}
-use Rattle.smol_travel.specs.Meetings.{IsNext, rect_sheets, wall_sheets, sheets_of}
-use Rattle.smol_travel.proofs.Scan.{next_of_both}
+use Rattle.std.proofs.Common.{refl, ap, arith, subst, ◌∙◌}
+use Rattle.std.proofs.lemmas.List.{take_all}
+use Rattle.smol_travel.specs.Meetings.{IsNext}
+use Rattle.smol_travel.proofs.Scan.{next_same, next_met, some_or}
 use Rattle.smol_travel.proofs.meeting.next_meeting.Goals as goal
+use Rattle.smol_travel.proofs.meeting.next_meeting.Goals.{in-Some, in_default}
 
-pub next_of_rects-rect-requires-clause-rects : goal.next_of_rects-rect-requires-clause-rects
-next_of_rects-rect-requires-clause-rects c =
-    subst (λ rects. All IsPanelRect rects) (sym c.rects.ensures) (rects_fit c.args.panels.now 0 c.config-config.ensures.sound)
+pub loop-sheet-init : goal.loop-sheet-init
+loop-sheet-init c = record { none = λ m h k d l. absurd (omega arith) }
 
-pub next_of_walls-wall-requires-clause-walls : goal.next_of_walls-wall-requires-clause-walls
-next_of_walls-wall-requires-clause-walls c =
-    subst (λ walls. All (λ (wall : Wall). IsWallPlane wall.axis wall.plane) walls) (sym (c.walls.ensures.value ∙ ap (λ draft. draft.walls) c.config-config.ensures.value))
-    (wall_planes_fit c.args.panels.now 0 c.config-config.ensures.sound)
+pub loop-sheet-preserved : goal.loop-sheet-preserved
+loop-sheet-preserved c =
+    let sheets = c.sheets-sheets.result.now in
+    elim c.match-meeting_in_span.branch [
+      | in-Some w ↦ rw (w.next-is, w.earlier.ensures)
+          (next_met sheets c.args.leg.now c.args.last.now c.loop-sheet.sheet-index _ _ c.loop-sheet-test.true refl
+          c.loop-sheet.next w.in-Some.met c.loop-sheet.invariant w.in-Some.ensures.later
+          (λ m h e. ap (some_or w.in-Some.met) (w.in-Some.ensures.only m h e)))
+      | in_default w ↦ rw w.next-is
+          (next_same sheets c.args.leg.now c.args.last.now c.loop-sheet.sheet-index _ _ c.loop-sheet-test.true refl
+          c.loop-sheet.next c.loop-sheet.invariant
+          (λ m h e. w.in_default.not-Some m (c.meeting_in_span.ensures.only m h e)))
+    ]
 
-pub returns : goal.returns
-returns c =
-    let rects = subst (λ rects. IsNext (rect_sheets rects) c.args.from.now c.args.by.now c.args.fold.now c.args.last.now c.next_of_rects-rect.result) c.rects.ensures c.next_of_rects-rect.ensures in
-    let walls = subst (λ walls. IsNext (wall_sheets walls) c.args.from.now c.args.by.now c.args.fold.now c.args.last.now c.next_of_walls-wall.result)
-    (c.walls.ensures.value ∙ ap (λ draft. draft.walls) c.config-config.ensures.value) c.next_of_walls-wall.ensures in
-    subst (λ next. IsNext (sheets_of c.args.panels.now) c.args.from.now c.args.by.now c.args.fold.now c.args.last.now next) (sym c.earliest.ensures)
-    (next_of_both (rect_sheets (map (λ (panel : Panel). panel.rect) c.args.panels.now.panels)) (wall_sheets c.args.panels.now.walls) c.args.from.now c.args.by.now c.args.fold.now c.args.last.now
-    c.next_of_rects-rect.result c.next_of_walls-wall.result rects walls)
+pub returns-clause-next : goal.returns-clause-next
+returns-clause-next c =
+    subst (λ sheets. IsNext sheets c.args.leg.now c.args.last.now c.loop-sheet.next)
+    (take_all c.loop-sheet.sheet-index c.sheets-sheets.result.now c.loop-sheet-test.false ∙ c.sheets-sheets.ensures.value) c.loop-sheet.invariant

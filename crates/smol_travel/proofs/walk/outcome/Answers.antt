@@ -1,20 +1,30 @@
-use Rattle.std.proofs.Common.{subst, sym, ap, ◌∙◌}
+use Rattle.std.proofs.Common.{sym, subst, ap, ◌∙◌}
+use Rattle.smol_meaning.specs.declared.way.Effect.{Effect}
 use Rattle.smol_meaning.specs.Folds.{StandingFits}
-use Rattle.smol_meaning.specs.Plates.{done_by}
 use Rattle.smol_meaning.specs.Seen.{plates_of}
+use Rattle.smol_meaning.specs.Way.{after_effect}
 use Rattle.smol_meaning.proofs.Bounds.{outcome_fits}
 use Rattle.smol_meaning.proofs.Seeing.{plates_fit}
-use Rattle.smol_travel.specs.Meetings.{IsSmallJump}
+use Rattle.smol_travel.specs.Meetings.{IsSmallJump, IsOfSpecies}
 use Rattle.smol_travel.proofs.Jumps.{decides_short}
+use Rattle.smol_travel.proofs.Walking.{stays_known}
 use Rattle.smol_travel.proofs.walk.outcome.Goals as goal
 
-pub done-requires-clause-response : goal.done-requires-clause-response
-done-requires-clause-response c =
-    subst IsSmallJump (sym c.decision-response.ensures)
-    (decides_short c.args.config.now.dims (plates_of c.args.config.now c.args.species) c.args.from.now c.args.by.now c.args.fold.now c.args.moment.now (plates_fit c.args.config.now c.args.species c.requires.sound))
+pub done-requires-clause-jump : goal.done-requires-clause-jump
+done-requires-clause-jump c =
+    let draft = c.args.panels.now in
+    subst (λ (effect : Effect). IsSmallJump effect.response) (sym c.decision-effect.ensures.value)
+    (decides_short draft.dims (plates_of draft) c.args.leg.now.from c.args.leg.now.by c.args.leg.now.fold c.args.moment.now c.args.species (plates_fit draft c.decision-effect.ensures.sound))
 
 pub returns-clause-fits : goal.returns-clause-fits
 returns-clause-fits c =
-    subst (StandingFits c.args.config.now.dims c.args.from.now c.args.by.now) (sym (c.done.ensures ∙ ap (done_by c.args.from.now c.args.by.now c.args.fold.now c.args.moment.now) c.decision-response.ensures))
-    (outcome_fits c.args.config.now.dims c.args.from.now c.args.by.now c.requires.moving c.args.moment.now c.requires.moment c.args.fold.now c.requires.fold
-    (plates_of c.args.config.now c.args.species) (plates_fit c.args.config.now c.args.species c.requires.sound))
+    let draft = c.args.panels.now in
+    let leg = c.args.leg.now in
+    subst (StandingFits draft.dims leg.from leg.by) (sym (c.done.ensures ∙ ap (after_effect leg.from leg.by leg.fold c.args.moment.now) c.decision-effect.ensures.value))
+    (outcome_fits draft.dims leg.from leg.by c.requires.moving c.args.moment.now c.requires.moment leg.fold c.requires.fold
+    (plates_of draft) (plates_fit draft c.decision-effect.ensures.sound) c.args.species)
+
+pub returns-clause-known : goal.returns-clause-known
+returns-clause-known c =
+    subst (IsOfSpecies c.args.panels.now) (sym c.done.ensures)
+    (stays_known c.args.panels.now c.args.leg.now c.args.moment.now c.decision-effect.result.response c.decision-effect.result.species c.decision-effect.ensures.known)

@@ -5,7 +5,7 @@ use Rattle.smol_travel.proofs.walk.travel.Given as goal
 
 -- each round leaves fewer moments
 abbrev pub invariant-loop-next : goal.invariant-loop-next
-invariant-loop-next l = IsOnWay l.config l.species l.from l.by l.fold l.last
+invariant-loop-next l = IsOnWay l.panels l.species (record { from = l.from; by = l.by; fold = l.fold }) l.present l.last
 
 abbrev pub decreases-loop-next : goal.decreases-loop-next
 decreases-loop-next l = length (moments_after l.last (moments l.from l.by))
