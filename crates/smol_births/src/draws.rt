@@ -1,18 +1,12 @@
 //! Which reaction a molecule makes alone.
-ghost use Rattle.std.specs.Prelude.{◌≡◌, ◌<◌, ◌≤◌, length, nat_lt, sum_by};
-ghost use Rattle.std.specs.List.{list_any};
-ghost use Rattle.smol_types.specs.declared.reaction.Reaction.{Reaction as TheReaction};
+ghost use Rattle.std.specs.Prelude.{◌≡◌, ◌<◌, ◌≤◌, length, sum_by};
 ghost use Rattle.smol_types.specs.Limits.{certain};
 ghost use Rattle.smol_types.specs.Reactions.{reacts_alone, share_of};
 ghost use Rattle.smol_meaning.specs.Events.{lone_reaction, reaction_drawn};
+ghost use Rattle.smol_births.specs.Chances.{chance_of};
 
 use smol_streams::Streams;
 use smol_types::{Config, Mol, Reaction};
-
-// How many places a step has in a molecule's stream, and which of them has the word of its reaction.
-const WORDS_A_STEP: u128 = 32;
-
-const REACTION_WORD: u128 = 18;
 
 // Whether the species is the one reactant.
 fn reacts_alone(species: u16, reactants: &[u16]) -> bool
@@ -35,17 +29,20 @@ fn share_of(species: u16, reaction: &Reaction) -> u64
     }
 }
 
-// Whether some word is a reaction's in which a molecule of the species reacts alone.
-fn may_react(species: u16, reactions: &[Reaction]) -> bool
-    ensures { result ≡ list_any (λ (reaction : TheReaction). nat_lt 0 (share_of species reaction)) reactions.now }
+// How many of the random words make a molecule of the species react alone.
+pub fn chance_of(species: u16, reactions: &[Reaction]) -> u64
+    requires { sum_by (share_of species) reactions.now ≤ certain }
+    ensures { result ≡ chance_of reactions.now species }
 {
-    reactions
-        .iter()
-        .any(|reaction| share_of(species, reaction) > 0)
+    let mut chance = 0;
+    for reaction in reactions {
+        chance += share_of(species, reaction);
+    }
+    chance
 }
 
 // The reaction whose words hold this one.
-fn reaction_drawn(species: u16, reactions: &[Reaction], word: u32) -> Option<u16>
+pub fn reaction_drawn(species: u16, reactions: &[Reaction], word: u32) -> Option<u16>
     requires count { length reactions.now ≤ 1024 }
     requires shares { sum_by (share_of species) reactions.now ≤ certain }
     ensures { result ≡ reaction_drawn species 0 0 reactions.now word }
@@ -68,9 +65,9 @@ pub fn first_order(config: &Config, m: &Mol, streams: &mut Streams, k: u32) -> O
     ensures seed { streams.new ≡ streams.old }
 {
     let reactions = config.reactions();
-    if !may_react(m.species, reactions) {
+    if chance_of(m.species, reactions) == 0 {
         return None;
     }
-    let word = streams.word(m.serial, WORDS_A_STEP * u128::from(k) + REACTION_WORD);
+    let word = streams.first_order_word(m.serial, k);
     reaction_drawn(m.species, reactions, word)
 }

@@ -1,6 +1,5 @@
 //! Reactions that take place.
 ghost use Rattle.std.specs.Prelude.{◌≡◌, ◌^◌, ◌<◌, length};
-ghost use Rattle.smol_streams.specs.Chance.{axis_drawn, pair_stream};
 ghost use Rattle.smol_meaning.specs.Encounters.{Encounter, event_of_two, start_of_two};
 ghost use Rattle.smol_meaning.specs.Events.{lone_event};
 ghost use Rattle.smol_meaning.specs.Motion.{difstep_of};
@@ -9,38 +8,6 @@ use smol_geom::Place;
 use smol_meaning::Fired;
 use smol_streams::Streams;
 use smol_types::{Config, Mol};
-
-// How many places a step has in a molecule's stream, and which of them has the word of the axis along
-// which its products are taken apart.
-const WORDS_A_STEP: u128 = 32;
-
-const AXIS_WORD: u128 = 19;
-
-// How many places a step has in the stream of two molecules, of which each reaction has two.
-const WORDS_A_STEP_OF_TWO: u128 = 2048;
-
-// The first stream of two molecules, and how many ranks there may be.
-const STREAMS_OF_TWO: u64 = 1 << 63;
-
-const RANKS: u64 = 1 << 20;
-
-// The axis that a word draws of so many in use.
-fn axis_drawn(dims: u8, word: u32) -> u8
-    requires { 0 < dims }
-    ensures value { result ≡ axis_drawn dims word }
-    ensures in_use { result < dims }
-{
-    ((u64::from(word) * u64::from(dims)) >> 32) as u8
-}
-
-// The stream of two molecules of these ranks.
-fn pair_stream(ranks: (u32, u32)) -> u64
-    requires first { ranks.0 < 2 ^ 20 }
-    requires second { ranks.1 < 2 ^ 20 }
-    ensures { result ≡ pair_stream ranks.0 ranks.1 }
-{
-    STREAMS_OF_TWO + u64::from(ranks.0) * RANKS + u64::from(ranks.1)
-}
 
 // The difstep of a molecule's species.
 fn difstep_of(config: &Config, m: &Mol) -> u32
@@ -69,11 +36,10 @@ pub fn fired_of_one(config: &Config, m: &Mol, r: u16, streams: &mut Streams, k: 
     ensures in_use { result.axis < config.now.dims }
     ensures seed { streams.new ≡ streams.old }
 {
-    let word = streams.word(m.serial, WORDS_A_STEP * u128::from(k) + AXIS_WORD);
     Fired {
         reaction: r,
         start: m.place,
-        axis: axis_drawn(config.dims(), word),
+        axis: streams.lone_axis(config.dims(), m.serial, k),
     }
 }
 
@@ -97,11 +63,9 @@ pub fn fired_of_two(
     ensures in_use { result.axis < config.now.dims }
     ensures seed { streams.new ≡ streams.old }
 {
-    let place = WORDS_A_STEP_OF_TWO * u128::from(k) + 2 * u128::from(r) + 1;
-    let word = streams.word(pair_stream(ranks), place);
     Fired {
         reaction: r,
         start: start_of_two(config, a, b),
-        axis: axis_drawn(config.dims(), word),
+        axis: streams.pair_axis(config.dims(), ranks, k, r),
     }
 }

@@ -8,12 +8,6 @@ use smol_num::Threshold;
 use smol_streams::Streams;
 use smol_types::Mol;
 
-// The stream of command 0. Those of the next ones follow.
-const FIRST_STREAM: u64 = 3 << 62;
-
-// How many places of its stream a command has in one step.
-const PLACES_A_STEP: u128 = 1 << 20;
-
 /// A command at a step, the species that it means and the threshold of its random words.
 #[derive(Clone, Copy)]
 pub struct Chance<'a> {
@@ -34,8 +28,8 @@ impl Chance<'_> {
         if !is_meant(self.who, mol) {
             return false;
         }
-        let place = PLACES_A_STEP * u128::from(self.step) + rank as u128;
-        u64::from(streams.word(FIRST_STREAM + u64::from(self.command), place)) < self.p.0
+        let word = streams.command_word(self.command, self.step, rank as u32);
+        u64::from(word) < self.p.0
     }
 
     /// Removes the molecules that are hit.

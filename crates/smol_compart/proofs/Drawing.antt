@@ -1,12 +1,14 @@
 -- Coordinates that are drawn between the walls of an axis.
-use Rattle.std.proofs.Common.{◌≡◌, ℕ, zero, suc, ◌+◌, ◌*◌, ◌≤◌, ◌<◌, refl, sym, ap, subst, ◌∙◌, arith, List, [], ◌∷◌, length, get_or, Bool, true, false, Option, Some, None, ℤ, pos}
+use Rattle.std.proofs.Common.{◌≡◌, ℕ, zero, suc, ◌+◌, ◌*◌, ◌≤◌, ◌<◌, refl, sym, ap, subst, ◌∙◌, arith, List, [], ◌∷◌, length, get_or, Bool, true, false, Option, Some, None, ℤ, pos, ◌<ℤ◌, to_z, of_z, unsigned_abs, w64}
 use Rattle.std.specs.Prelude.{slice_get, if◌then◌else◌}
+use Rattle.std.proofs.lemmas.Int.{fits_signed_from_abs, to_z-of_z}
 use Rattle.std.proofs.lemmas.Option.{slice_get_past, slice_get-get_or}
 use Rattle.smol_geom.specs.declared.place.Place.{Place}
 use Rattle.smol_types.specs.declared.draft.Draft.{Draft}
 use Rattle.smol_types.specs.declared.placing.Given.{Given}
 use Rattle.smol_types.specs.declared.placing.Given.TheVariants.{Any, At}
 use Rattle.smol_types.specs.declared.wall.Wall.{Wall}
+use Rattle.smol_types.specs.Limits.{farthest}
 use Rattle.smol_types.specs.Walls.{AreWalls, IsAxis}
 use Rattle.smol_streams.specs.Chance.{coordinate_drawn}
 use Rattle.smol_meaning.specs.Placement.{anywhere, coordinates_at, coordinate_unused, first_inside, place_at_try}
@@ -40,6 +42,13 @@ walls_at walls axis d are within =
     subst (λ (n : ℕ). IsAxis n (get_or walls (2 * axis) d) (get_or walls (2 * axis + 1) d)) from_none
     (axis_walls walls 0 axis (get_or walls (2 * axis) d) (get_or walls (2 * axis + 1) d) are
     (slice_get-get_or walls (2 * axis) d (omega arith)) (slice_get-get_or walls (2 * axis + 1) d within))
+
+-- the plane of a wall is a number of the machine
+pub plane_kept : (x : ℤ) → unsigned_abs x ≤ farthest → to_z w64 (of_z w64 x) ≡ x
+plane_kept x small = to_z-of_z w64 x (fits_signed_from_abs w64 x (omega (arith, small)))
+
+pub planes_ordered : (axis : ℕ) (lower upper : Wall) → IsAxis axis lower upper → to_z w64 (of_z w64 lower.plane) <ℤ to_z w64 (of_z w64 upper.plane)
+planes_ordered axis lower upper are = rw (plane_kept lower.plane are.lower_size, plane_kept upper.plane are.upper_size) are.ordered
 
 -- between them a coordinate is drawn
 pub drawn_there : (walls : List Wall) (seed serial try axis : ℕ) (d : Wall) → 2 * axis + 1 < length walls

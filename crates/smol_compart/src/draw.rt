@@ -1,8 +1,7 @@
 //! Places that are drawn for molecules.
 ghost use Rattle.std.specs.Prelude.{◌≡◌, ◌^◌, ◌<◌, length};
 ghost use Rattle.smol_types.specs.Sound.{IsSound};
-ghost use Rattle.smol_types.specs.Walls.{AreWalls, IsAxis};
-ghost use Rattle.smol_streams.specs.Chance.{coordinate_drawn};
+ghost use Rattle.smol_types.specs.Walls.{AreWalls};
 ghost use Rattle.smol_meaning.specs.Placement.{first_inside, most_tries, place_at_try};
 ghost use Rattle.smol_compart.specs.Coordinate.{coordinate_on};
 
@@ -13,14 +12,6 @@ use smol_types::{Config, Given, Wall};
 
 // How often a place is drawn for a molecule that is to be inside a compartment.
 const MOST_TRIES: u32 = 1000;
-
-// Coordinates for molecules are drawn in the streams from this one on, by serial.
-const FIRST_STREAM: u64 = 1 << 62;
-
-// How many places a try has in its molecule's stream, and how many of them an axis.
-const WORDS_A_TRY: u128 = 8;
-
-const WORDS_AN_AXIS: u128 = 2;
 
 // All coordinates are to be drawn.
 const ANYWHERE: [Given; 3] = [Given::Any, Given::Any, Given::Any];
@@ -87,37 +78,12 @@ fn coordinate_on(
         Given::At(x) => x,
         Given::Any => {
             if lower + 1 < walls.len() {
-                draw_between(
-                    &walls[lower],
-                    &walls[lower + 1],
-                    streams,
-                    serial,
-                    attempt,
-                    axis,
-                )
+                let low = walls[lower].plane;
+                let high = walls[lower + 1].plane;
+                streams.coordinate(serial, attempt, axis, low, high)
             } else {
                 1
             }
         }
     }
-}
-
-// An odd coordinate between the two walls of an axis.
-fn draw_between(
-    lower: &Wall,
-    upper: &Wall,
-    streams: &mut Streams,
-    serial: u64,
-    attempt: u32,
-    axis: u8,
-) -> i64
-    requires walls { IsAxis axis lower.now upper.now }
-    requires serial { serial < 2 ^ 62 }
-    ensures value { result ≡ coordinate_drawn streams.old serial attempt axis lower.now.plane upper.now.plane }
-    ensures seed { streams.new ≡ streams.old }
-{
-    let place = WORDS_A_TRY * u128::from(attempt) + WORDS_AN_AXIS * u128::from(axis);
-    let gap = upper.plane.abs_diff(lower.plane);
-    let number = streams.below(FIRST_STREAM + serial, place, gap / 2);
-    lower.plane + (1 + 2 * number) as i64
 }

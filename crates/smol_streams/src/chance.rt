@@ -7,9 +7,11 @@ ghost use Rattle.smol_streams.specs.Displacement.{displacement};
 use crate::Streams;
 use smol_geom::Step3;
 
-// A step has so many places in a molecule's stream. The first 18 are those of its displacement. Behind them are the word of the
-// reaction that it makes alone, and that of the axis along which its products are taken apart.
-const WORDS_A_STEP: u128 = 32;
+// A step has so many places in a molecule's stream. The first 18 are those of its displacement, six for each axis. Behind them are
+// the word of the reaction that it makes alone, and that of the axis along which its products are taken apart.
+pub const WORDS_A_STEP: u128 = 32;
+
+pub const WORDS_AN_AXIS: u128 = 6;
 
 const REACTION_WORD: u128 = 18;
 

@@ -4,17 +4,13 @@ ghost use Rattle.smol_streams.specs.Displacement.{centred_sum, displacement, dis
 ghost use Rattle.smol_streams.specs.Generator.{moved};
 ghost use Rattle.smol_streams.specs.Words.{word_of, number_below};
 
+use crate::chance::{WORDS_A_STEP, WORDS_AN_AXIS};
 use crate::displacement::scale;
 use rand_chacha::ChaCha8Rng;
 use rand_core::SeedableRng;
 use rand_core::utils::NextWord;
 use smol_geom::Step3;
 use std::marker::Model;
-
-// How many places a step has in a molecule's stream, and how many of them an axis.
-const WORDS_A_STEP: u128 = 32;
-
-const WORDS_AN_AXIS: u128 = 6;
 
 // The mean of a sum of twelve 16-bit draws.
 const MEAN: i64 = 393_210;

@@ -41,3 +41,26 @@ fn a_displacement(rt: HostRuntime) {
         Step3([982_238, 3_748_566, 0])
     );
 }
+
+// Molecule 1 of seed 7 in step 1, behind its displacement: the words at places 50 and 51 of stream 1.
+#[test]
+fn what_a_molecule_draws(rt: HostRuntime) {
+    let mut streams = Streams::of_seed(7);
+    let drawn = Drawn {
+        by: Step3([982_238, 3_748_566, -2_029_358]),
+        word: 0x4d6c_29da,
+    };
+    assert_eq!(rt; streams.draw(1, 1, 1_000_000, 3), drawn);
+    assert_eq!(rt; streams.lone_axis(3, 1, 1), 1);
+}
+
+// Ranks 3 and 5 with reaction 4 in step 2: places 4104 and 4105 of stream 2^63 + 3 * 2^20 + 5. Command 2 in step 3 for rank 4:
+// place 3 * 2^20 + 4 of stream 3 * 2^62 + 2. Molecule 1 at try 1 on axis 2: places 12 and 13 of stream 2^62 + 1.
+#[test]
+fn what_pairs_commands_and_placements_draw(rt: HostRuntime) {
+    let mut streams = Streams::of_seed(7);
+    assert_eq!(rt; streams.pair_word((3, 5), 2, 4), 0xddb5_7331);
+    assert_eq!(rt; streams.pair_axis(3, (3, 5), 2, 4), 1);
+    assert_eq!(rt; streams.command_word(2, 3, 4), 0x5320_f4f7);
+    assert_eq!(rt; streams.coordinate(1, 1, 2, -200, 1000), -147);
+}
