@@ -33,11 +33,13 @@ impl<'a> Model for Reaches<'a> {
 impl<'a> Reaches<'a> {
     ghost use Rattle.std.specs.Prelude.{◌≡◌, ◌<◌, IfOk, is_some, length};
     ghost use Rattle.std.specs.List.{list_any};
+    ghost use Rattle.smol_types.specs.Sound.{IsSound};
     ghost use Rattle.smol_pairs.specs.Reach.{reach_of, reaches_of};
 
     /// How far the species of a configuration reach.
     pub fn of(alloc: Global, config: &'a Config) -> Result<Reaches<'a>, AllocError>
-        ensures { IfOk result (λ reaches. reaches ≡ config.now) }
+        ensures of { IfOk result (λ reaches. reaches ≡ config.now) }
+        ensures sound { IsSound config.now }
     {
         let by_species = table_of(alloc, config)?;
         Ok(Reaches { config, by_species })

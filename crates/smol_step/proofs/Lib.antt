@@ -1,6 +1,6 @@
 mod Answered
+mod Encountered
 mod Freed
 mod InPlace
-mod Pairwise
 mod Removed
 mod Still

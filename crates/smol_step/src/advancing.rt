@@ -15,18 +15,19 @@ ghost use Rattle.smol_meaning.specs.Ways.{CrossesNoFace, StaysInBoxes};
 ghost use Rattle.smol_confined.specs.Boxes.{IsIn, IsInOrGone};
 ghost use Rattle.smol_confined.specs.Laws.{LoneProductsAreConfined, PairsAreConfined};
 ghost use Rattle.smol_step.specs.Advance.{IsAnswer, step_told};
+ghost use Rattle.smol_step.specs.Turns.{IsTurn};
 
 use crate::alone::react_alone;
 use crate::motion::diffuse;
 use crate::newborn::add_newborn;
 use crate::reacting::Reacting;
 use crate::removal::keep_free;
+use crate::setup::Setup;
 use crate::step_fault::StepFault;
-use crate::together::react_together;
+use crate::together::meet;
+use crate::turn::Turn;
 use smol_births::births;
-use smol_claims::match_pairs;
 use smol_edge::Gate;
-use smol_pairs::candidates;
 use smol_streams::Streams;
 use smol_travel::Panels;
 use smol_types::{Config, Items, Mol, State};
@@ -37,65 +38,50 @@ use std::thread::Threads;
 fn react<R: Threads + Sync, G: Gate + Sync>(
     rt: &R,
     alloc: Global,
-    config: &Config,
-    seed: u64,
-    k: u32,
+    setup: &Setup,
+    turn: &Turn<G>,
     mols: &[Mol],
     reactions: &[Option<u16>],
-    workers: u32,
-    gate: &G,
 ) -> Result<Reacting, AllocError>
-    requires least { 1 ≤ workers }
-    requires most { workers ≤ 16 }
-    requires step { k ≤ 4000000 }
-    requires moved { AreMoved config.now mols.now }
-    requires reactions { reactions.now ≡ map (lone_reaction config.now seed k) mols.now }
-    ensures events { IfOk result (λ r. r.events.items ≡ events_of config.now seed k mols.now) }
-    ensures free { IfOk result
-        (λ r. r.free.items ≡ map (remains config.now seed k (reactions_of_two config.now seed k mols.now)) mols.now) }
+    requires turn { IsTurn turn.now.k turn.now.workers }
+    requires moved { AreMoved setup.now mols.now }
+    requires reactions { reactions.now ≡ map (lone_reaction setup.now turn.now.seed turn.now.k) mols.now }
+    ensures events { IfOk result (λ r. r.events.items ≡ events_of setup.now turn.now.seed turn.now.k mols.now) }
+    ensures free { IfOk result (λ r. r.free.items
+        ≡ map (remains setup.now turn.now.seed turn.now.k (reactions_of_two setup.now turn.now.seed turn.now.k mols.now)) mols.now) }
 {
-    let mut streams = Streams::of_seed(seed);
-    let mut reacting = react_alone(alloc, config, &mut streams, k, mols, reactions)?;
-    let pairs = candidates(rt, alloc, config, mols, &reacting.free, seed, k)?;
-    let copy = Vec::from_slice(alloc, &pairs)?;
-    let fired = match_pairs(rt, alloc, copy, workers, gate)?;
-    react_together(config, &mut streams, k, mols, &pairs, &fired, &mut reacting)?;
+    let mut streams = Streams::of_seed(turn.seed);
+    let mut reacting = react_alone(alloc, setup.config(), &mut streams, turn.k, mols, reactions)?;
+    meet(rt, alloc, setup, turn, mols, &mut reacting)?;
     Ok(reacting)
 }
 
-// The state after step k, whatever the limit, of these molecules after its motion.
+// The state after a step, whatever the limit, of these molecules after its motion.
 fn reacted<R: Threads + Sync, G: Gate + Sync>(
     rt: &R,
     alloc: Global,
-    config: &Config,
-    panels: &Panels,
-    seed: u64,
-    k: u32,
+    setup: &Setup,
+    turn: &Turn<G>,
     mols: Vec<Mol>,
     reactions: &[Option<u16>],
     next: u64,
-    workers: u32,
-    gate: &G,
 ) -> Result<State, AllocError>
-    requires least { 1 ≤ workers }
-    requires most { workers ≤ 16 }
-    requires sound { IsSound config.now }
-    requires panels { panels.now ≡ config.now }
-    requires step { k ≤ 4000000 }
+    requires sound { IsSound setup.now }
+    requires turn { IsTurn turn.now.k turn.now.workers }
     requires count { length mols.items ≤ 1000000 }
     requires serials { Ascend 0 last_serial mols.items }
-    requires placed { All (IsPlaced config.now (2 ^ 57)) mols.items }
-    requires reactions { reactions.now ≡ map (lone_reaction config.now seed k) mols.items }
+    requires placed { All (IsPlaced setup.now (2 ^ 57)) mols.items }
+    requires reactions { reactions.now ≡ map (lone_reaction setup.now turn.now.seed turn.now.k) mols.items }
     requires next { next ≤ last_serial }
-    ensures { IfOk result (λ state. state ≡ reacted config.now seed k mols.items next) }
+    ensures { IfOk result (λ state. state ≡ reacted setup.now turn.now.seed turn.now.k mols.items next) }
 {
     let mut mols = mols;
-    let reacting = react(rt, alloc, config, seed, k, &mols, reactions, workers, gate)?;
-    let births = births(alloc, config, &reacting.events, next)?;
+    let reacting = react(rt, alloc, setup, turn, &mols, reactions)?;
+    let births = births(alloc, setup.config(), &reacting.events, next)?;
     keep_free(&mut mols, &reacting.free);
-    add_newborn(panels, &births, &mut mols)?;
+    add_newborn(setup.panels(), &births, &mut mols)?;
     Ok(State {
-        step: k,
+        step: turn.k,
         mols: Items::from_vec(mols),
         next: next + births.len() as u64,
     })
@@ -105,30 +91,30 @@ fn reacted<R: Threads + Sync, G: Gate + Sync>(
 fn stepped<R: Threads + Sync, G: Gate + Sync>(
     rt: &R,
     alloc: Global,
-    config: &Config,
-    panels: &Panels,
+    setup: &Setup,
     state: State,
     seed: u64,
     workers: u32,
     gate: &G,
 ) -> Result<State, AllocError>
-    requires sound { IsSound config.now }
-    requires panels { panels.now ≡ config.now }
-    requires fits { Fits config.now state }
-    requires further { state.step + 1 ≤ last_step config.now.start config.now.stop config.now.step }
+    requires sound { IsSound setup.now }
+    requires fits { Fits setup.now state }
+    requires further { state.step + 1 ≤ last_step setup.now.start setup.now.stop setup.now.step }
     requires room { state.next ≤ last_serial - 16000000 }
     ensures { IfOk result (λ after. after
-        ≡ reacted config.now seed (state.step + 1) (all_diffused config.now seed (state.step + 1) state.mols) state.next) }
+        ≡ reacted setup.now seed (state.step + 1) (all_diffused setup.now seed (state.step + 1) state.mols) state.next) }
 {
     let State { step, mols, next } = state;
-    let k = step + 1;
-    let workers = workers.clamp(1, 16);
+    let turn = Turn {
+        k: step + 1,
+        seed,
+        workers: workers.clamp(1, 16),
+        gate,
+    };
     let mut mols = mols.into_vec();
     let mut streams = Streams::of_seed(seed);
-    let reactions = diffuse(alloc, config, panels, &mut streams, k, &mut mols)?;
-    reacted(
-        rt, alloc, config, panels, seed, k, mols, &reactions, next, workers, gate,
-    )
+    let reactions = diffuse(alloc, setup, &mut streams, turn.k, &mut mols)?;
+    reacted(rt, alloc, setup, &turn, mols, &reactions, next)
 }
 
 // The state, where it has no more than so many molecules, and otherwise how many it has. Takes no memory.
@@ -157,6 +143,34 @@ fn step_told(most: u32, made: Result<State, AllocError>) -> Result<State, StepFa
 
 /// Makes the step after this state. Its pairs are matched by so many workers, where fewer than 1 count as 1
 /// and more than 16 as 16. Neither their number nor the gate changes the answer.
+pub fn advance_with<R: Threads + Sync, G: Gate + Sync>(
+    rt: &R,
+    alloc: Global,
+    setup: &Setup,
+    state: State,
+    seed: u64,
+    workers: u32,
+    gate: &G,
+) -> Result<State, StepFault>
+    requires fits { Fits setup.now state }
+    requires further { state.step + 1 ≤ last_step setup.now.start setup.now.stop setup.now.step }
+    requires room { state.next ≤ last_serial - 16000000 }
+    ensures answer { IsAnswer (next_state setup.now seed state) result }
+    ensures fits { IfOk result (Fits setup.now) }
+    ensures serials { IfOk result (λ after. after.next ≤ state.next + 16000000) }
+    ensures no_way_crosses { All (CrossesNoFace setup.now) (moves_of setup.now seed state) }
+    ensures ways_are_confined { All (StaysInBoxes setup.now) (moves_of setup.now seed state) }
+    ensures boxes_hold { IfOk result (λ after. (box : Cuboid) (serial : ℕ) → IsClosedBox setup.now box
+        → IsIn box serial state → IsInOrGone box serial after) }
+    ensures products_stay { (box : Cuboid) → IsClosedBox setup.now box → LoneProductsAreConfined setup.now seed state box }
+    ensures pairs_stay { (box : Cuboid) → IsClosedBox setup.now box → PairsAreConfined setup.now seed state box }
+{
+    let most = setup.config().max_mol();
+    let made = stepped(rt, alloc, setup, state, seed, workers, gate);
+    step_told(most, made)
+}
+
+/// Makes the step after this state as `advance_with` does, where what it looks up is made for this step alone.
 pub fn advance<R: Threads + Sync, G: Gate + Sync>(
     rt: &R,
     alloc: Global,
@@ -181,7 +195,8 @@ pub fn advance<R: Threads + Sync, G: Gate + Sync>(
     ensures products_stay { (box : Cuboid) → IsClosedBox config.now box → LoneProductsAreConfined config.now seed state box }
     ensures pairs_stay { (box : Cuboid) → IsClosedBox config.now box → PairsAreConfined config.now seed state box }
 {
-    let most = config.max_mol();
-    let made = stepped(rt, alloc, config, panels, state, seed, workers, gate);
-    step_told(most, made)
+    match Setup::of(alloc, config, panels) {
+        Ok(setup) => advance_with(rt, alloc, &setup, state, seed, workers, gate),
+        Err(AllocError) => Err(StepFault::OutOfMemory),
+    }
 }

@@ -5,12 +5,14 @@ mod advancing;
 mod alone;
 mod motion;
 mod newborn;
-mod ranks;
 mod reacting;
 mod removal;
+mod setup;
 mod step_fault;
 mod together;
+mod turn;
 
-pub use advancing::advance;
+pub use advancing::{advance, advance_with};
+pub use setup::Setup;
 pub use smol_travel::Panels;
 pub use step_fault::StepFault;

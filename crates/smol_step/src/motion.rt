@@ -1,40 +1,68 @@
 //! The motion of molecules in a step, and the word of each that comes with it.
-ghost use Rattle.std.specs.Prelude.{◌≡◌, ◌^◌, ◌<◌, All, IfOk, IfSome, OnOk, length, map};
-ghost use Rattle.smol_meaning.specs.Events.{lone_reaction};
-ghost use Rattle.smol_meaning.specs.Motion.{all_diffused, diffused, diffusion};
+ghost use Rattle.std.specs.Prelude.{◌≡◌, ◌^◌, ◌<◌, All, IfOk, OnOk, length, map};
+ghost use Rattle.smol_streams.specs.Displacement.{displacement};
+ghost use Rattle.smol_meaning.specs.Events.{lone_reaction, reaction_drawn};
+ghost use Rattle.smol_meaning.specs.Motion.{all_diffused, arrived, difstep_of, diffusion};
 ghost use Rattle.smol_meaning.specs.Moves.{IsMove};
 ghost use Rattle.smol_meaning.specs.Placed.{IsPlaced};
+ghost use Rattle.smol_meaning.specs.Seen.{way};
 
-use smol_births::first_order;
+use crate::setup::Setup;
 use smol_geom::Step3;
-use smol_streams::Streams;
+use smol_streams::{Drawn, Streams};
 use smol_travel::{Panels, Travelled, travel};
 use smol_types::{Config, Mol};
 use std::alloc::{AllocError, Global};
 
-// How far a molecule goes in step k, where nothing is in its way. One that doesn't move draws nothing.
-fn displacement(config: &Config, streams: &mut Streams, k: u32, m: &Mol) -> Step3
-    requires { IsPlaced config.now (2 ^ 57) m.now }
-    ensures value { result ≡ (diffusion config.now streams.old k m.now).by }
-    ensures goes { IsMove config.now.dims m.now.place result }
+// The difstep of a molecule's species.
+fn difstep_of(config: &Config, m: &Mol) -> u32
+    requires { m.now.species < length config.now.species }
+    ensures { result ≡ difstep_of config.now m.now.species }
+{
+    config.species()[m.species as usize].step
+}
+
+// How far a molecule of this difstep goes in step k, where nothing is in its way. One that doesn't move draws nothing.
+fn displacement(streams: &mut Streams, m: &Mol, k: u32, difstep: u32, dims: u8) -> Step3
+    ensures value { result ≡ displacement streams.old m.now.serial k difstep dims }
     ensures seed { streams.new ≡ streams.old }
 {
-    let difstep = config.species()[m.species as usize].step;
     if difstep == 0 {
         return Step3([0, 0, 0]);
     }
-    streams.displace(m.serial, k, difstep, config.dims())
+    streams.displace(m.serial, k, difstep, dims)
 }
 
-// A molecule after its motion in step k, where it wasn't absorbed.
-fn diffused(config: &Config, panels: &Panels, streams: &mut Streams, k: u32, m: &Mol) -> Option<Mol>
-    requires panels { panels.now ≡ config.now }
-    requires placed { IsPlaced config.now (2 ^ 57) m.now }
-    ensures diffused { result ≡ diffused config.now streams.old k m.now }
-    ensures species { IfSome result (λ after. after.species < length config.now.species) }
+// What a molecule draws in step k: how far it goes, where nothing is in its way, and the word of the reaction that it makes alone.
+// What would tell nothing isn't drawn.
+fn drawn(setup: &Setup, streams: &mut Streams, k: u32, m: &Mol) -> Drawn
+    requires { IsPlaced setup.now (2 ^ 57) m.now }
+    ensures by { result.by ≡ (diffusion setup.now streams.old k m.now).by }
+    ensures goes { IsMove setup.now.dims m.now.place result.by }
+    ensures word { reaction_drawn m.now.species 0 0 setup.now.reactions result.word ≡ lone_reaction setup.now streams.old k m.now }
     ensures seed { streams.new ≡ streams.old }
 {
-    let by = displacement(config, streams, k, m);
+    let config = setup.config();
+    let difstep = difstep_of(config, m);
+    let reacts = setup.alone().may_react(m.species);
+    if difstep > 0 && reacts {
+        return streams.draw(m.serial, k, difstep, config.dims());
+    }
+    let by = displacement(streams, m, k, difstep, config.dims());
+    let word = if reacts {
+        streams.first_order_word(m.serial, k)
+    } else {
+        0
+    };
+    Drawn { by, word }
+}
+
+// A molecule at the end of its way, where it wasn't absorbed.
+fn arrived(panels: &Panels, m: &Mol, by: Step3) -> Option<Mol>
+    requires species { m.now.species < length panels.now.species }
+    requires moving { IsMove panels.now.dims m.now.place by }
+    ensures { result ≡ arrived m.now (way panels.now m.now.species m.now.place by) }
+{
     match travel(panels, m.species, m.place, by) {
         Travelled::At(place) => Some(Mol {
             serial: m.serial,
@@ -49,24 +77,23 @@ fn diffused(config: &Config, panels: &Panels, streams: &mut Streams, k: u32, m: 
 /// of its displacement. Those that are absorbed leave the list, and the others keep their order.
 pub(crate) fn diffuse(
     alloc: Global,
-    config: &Config,
-    panels: &Panels,
+    setup: &Setup,
     streams: &mut Streams,
     k: u32,
     mols: &mut Vec<Mol>,
 ) -> Result<Vec<Option<u16>>, AllocError>
-    requires panels { panels.now ≡ config.now }
-    requires placed { All (IsPlaced config.now (2 ^ 57)) mols.old.items }
-    ensures moved { OnOk result (mols.new.items ≡ all_diffused config.now streams.old k mols.old.items) }
-    ensures reactions { IfOk result (λ reactions. reactions.items ≡ map (lone_reaction config.now streams.old k) mols.new.items) }
+    requires placed { All (IsPlaced setup.now (2 ^ 57)) mols.old.items }
+    ensures moved { OnOk result (mols.new.items ≡ all_diffused setup.now streams.old k mols.old.items) }
+    ensures reactions { IfOk result (λ reactions. reactions.items ≡ map (lone_reaction setup.now streams.old k) mols.new.items) }
     ensures seed { streams.new ≡ streams.old }
 {
     let mut reactions: Vec<Option<u16>> = Vec::with_capacity(alloc, mols.len())?;
     let mut left = 0;
     for i in 0..mols.len() {
         let m = mols[i];
-        if let Some(after) = diffused(config, panels, streams, k, &m) {
-            reactions.push(first_order(config, &after, streams, k))?;
+        let Drawn { by, word } = drawn(setup, streams, k, &m);
+        if let Some(after) = arrived(setup.panels(), &m, by) {
+            reactions.push(setup.alone().reaction(m.species, word))?;
             mols[left] = after;
             left += 1;
         }

@@ -17,7 +17,7 @@ use Rattle.smol_step.proofs.advancing.reacted.Goals as goal
 
 pub react-requires-clause-moved : goal.react-requires-clause-moved
 react-requires-clause-moved g c _ _ =
-    let config = c.args.config.now in
+    let config = c.args.setup.now in
     subst (λ (mols : List Mol). AreMoved config mols) (sym c.deref.ensures.value) (record {
       count = c.requires.count;
       serials = c.requires.serials;
@@ -28,41 +28,42 @@ react-requires-clause-moved g c _ _ =
 
 pub births-requires-clause-count : goal.births-requires-clause-count
 births-requires-clause-count g c =
-    let events = c.deref-2.ensures.value ∙ c.in_ok-reacting.ensures.events ∙ ap (events_of c.args.config.now c.args.seed c.args.k) c.deref.ensures.value in
-    let few = events_few c.args.config.now c.args.seed c.args.k c.args.mols.items in
+    let events = c.deref-2.ensures.value ∙ c.in_ok-reacting.ensures.events ∙ ap (events_of c.args.setup.now c.args.turn.now.seed c.args.turn.now.k) c.deref.ensures.value in
+    let few = events_few c.args.setup.now c.args.turn.now.seed c.args.turn.now.k c.args.mols.items in
     omega (arith, ap length events, few, c.requires.count)
 
 pub births-requires-clause-events : goal.births-requires-clause-events
 births-requires-clause-events g c =
-    let config = c.args.config.now in
-    let events = c.deref-2.ensures.value ∙ c.in_ok-reacting.ensures.events ∙ ap (events_of c.args.config.now c.args.seed c.args.k) c.deref.ensures.value in
-    subst (λ (events : List Fired). All (IsEvent config) events) (sym events) (events_are config c.args.seed c.args.k c.requires.sound c.args.mols.items)
+    let config = c.args.setup.now in
+    let events = c.deref-2.ensures.value ∙ c.in_ok-reacting.ensures.events ∙ ap (events_of c.args.setup.now c.args.turn.now.seed c.args.turn.now.k) c.deref.ensures.value in
+    subst (λ (draft : Draft). All (IsEvent draft) c.deref-2.result.now) (sym c.config.ensures.value)
+    (subst (λ (events : List Fired). All (IsEvent config) events) (sym events) (events_are config c.args.turn.now.seed c.args.turn.now.k c.requires.sound c.args.mols.items))
 
 pub add_newborn-requires : goal.add_newborn-requires
 add_newborn-requires g c =
-    let config = c.args.config.now in
-    let events = c.deref-2.ensures.value ∙ c.in_ok-reacting.ensures.events ∙ ap (events_of c.args.config.now c.args.seed c.args.k) c.deref.ensures.value in
-    let births = c.deref-4.ensures.value ∙ c.in_ok-births.ensures.births ∙ ap (births_of config c.args.next) events in
-    let moves = births_move config c.requires.sound c.args.seed c.args.k (2 ^ 57) c.args.next c.args.mols.items c.requires.placed (omega arith) in
-    subst (λ (draft : Draft). All (λ (birth : Birth). IsMoveOf draft (birth_move birth)) c.deref-4.result.now) (sym c.requires.panels)
+    let config = c.args.setup.now in
+    let events = c.deref-2.ensures.value ∙ c.in_ok-reacting.ensures.events ∙ ap (events_of c.args.setup.now c.args.turn.now.seed c.args.turn.now.k) c.deref.ensures.value in
+    let births = c.deref-4.ensures.value ∙ c.in_ok-births.ensures.births ∙ (λ i. births_of (c.config.ensures.value i) c.args.next (events i)) in
+    let moves = births_move config c.requires.sound c.args.turn.now.seed c.args.turn.now.k (2 ^ 57) c.args.next c.args.mols.items c.requires.placed (omega arith) in
+    subst (λ (draft : Draft). All (λ (birth : Birth). IsMoveOf draft (birth_move birth)) c.deref-4.result.now) (sym c.panels.ensures)
     (subst (λ (births : List Birth). All (λ (birth : Birth). IsMoveOf config (birth_move birth)) births) (sym births) moves)
 
 pub returns : goal.returns
 returns g c =
-    let config = c.args.config.now in
-    let seed = c.args.seed in
-    let k = c.args.k in
+    let config = c.args.setup.now in
+    let seed = c.args.turn.now.seed in
+    let k = c.args.turn.now.k in
     let old = c.args.mols.items in
     let next = c.args.next in
-    let events = c.deref-2.ensures.value ∙ c.in_ok-reacting.ensures.events ∙ ap (events_of c.args.config.now c.args.seed c.args.k) c.deref.ensures.value in
-    let born_all = c.in_ok-births.ensures.births ∙ ap (births_of config next) events in
+    let events = c.deref-2.ensures.value ∙ c.in_ok-reacting.ensures.events ∙ ap (events_of c.args.setup.now c.args.turn.now.seed c.args.turn.now.k) c.deref.ensures.value in
+    let born_all = c.in_ok-births.ensures.births ∙ (λ i. births_of (c.config.ensures.value i) next (events i)) in
     let births = c.deref-4.ensures.value ∙ born_all in
     let free = c.deref-3.ensures.value ∙ c.in_ok-reacting.ensures.free
     ∙ ap (λ (mols : List Mol). map (remains config seed k (reactions_of_two config seed k mols)) mols) c.deref.ensures.value in
     let kept = c.keep_free.ensures ∙ ap (λ (free : List Bool). items_where_true free old) free ∙ picked-filter (remains config seed k (reactions_of_two config seed k old)) old in
     let mols : c.from_vec.result ≡ mols_after config seed k old next =
     c.from_vec.ensures ∙ c.in_ok-add_newborn.ensures
-    ∙ (λ i. kept i ++ filter_map (born (c.requires.panels i)) (births i)) in
+    ∙ (λ i. kept i ++ filter_map (born (c.panels.ensures i)) (births i)) in
     let count : c.len.result ≡ length (births_in_step config seed k old next) =
     let same = ap length born_all in omega (arith, c.len.ensures, same) in
     λ i. record { step = k; mols = mols i; next = next + count i }

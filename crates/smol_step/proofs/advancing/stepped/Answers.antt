@@ -1,4 +1,4 @@
-use Rattle.std.proofs.Common.{◌≡◌, ◌≤◌, ◌+◌, ◌^◌, ℕ, All, List, IfOk, length, ap, sym, ◌∙◌, subst, arith}
+use Rattle.std.proofs.Common.{◌≡◌, ◌≤◌, ◌+◌, ◌^◌, All, List, IfOk, length, ap, sym, ◌∙◌, subst, arith}
 use Rattle.smol_types.specs.declared.state.Mol.{Mol}
 use Rattle.smol_types.specs.declared.state.State.{State}
 use Rattle.smol_types.specs.Limits.{last_serial}
@@ -11,22 +11,24 @@ use Rattle.smol_meaning.proofs.Kept.{Ascend-to}
 use Rattle.smol_meaning.proofs.Stepping.{diffused_few, diffused_near, mols_near}
 use Rattle.smol_step.proofs.advancing.stepped.Goals as goal
 
-pub overflow_add-k : goal.overflow_add-k
-overflow_add-k g c = let sound = c.requires.sound in omega (arith, c.requires.further, sound.steps)
+pub overflow_add-turn : goal.overflow_add-turn
+overflow_add-turn g c = let sound = c.requires.sound in omega (arith, c.requires.further, sound.steps)
 
-pub diffuse-requires-clause-placed : goal.diffuse-requires-clause-placed
-diffuse-requires-clause-placed g c =
-    let config = c.args.config.now in
+pub diffuse-requires : goal.diffuse-requires
+diffuse-requires g c =
+    let config = c.args.setup.now in
     let sound = c.requires.sound in
     let few : c.args.state.step ≤ 4000000 = omega (arith, c.requires.further, sound.steps) in
-    subst (All (IsPlaced config (2 ^ 57))) (sym c.into_vec-mols.ensures) (mols_near config c.args.state c.requires.fits few)
+    record { placed = subst (All (IsPlaced config (2 ^ 57))) (sym c.into_vec-mols.ensures) (mols_near config c.args.state c.requires.fits few) }
 
-pub reacted-requires-clause-step : goal.reacted-requires-clause-step
-reacted-requires-clause-step g c = let sound = c.requires.sound in omega (arith, c.requires.further, sound.steps)
+pub reacted-requires-clause-turn : goal.reacted-requires-clause-turn
+reacted-requires-clause-turn g c _ _ =
+    let sound = c.requires.sound in
+    record { step = omega (arith, c.requires.further, sound.steps); least = omega (arith, c.clamp.ensures); most = omega (arith, c.clamp.ensures) }
 
 pub reacted-requires-clause-count : goal.reacted-requires-clause-count
 reacted-requires-clause-count g c _ _ =
-    let config = c.args.config.now in
+    let config = c.args.setup.now in
     let state = c.args.state in
     let mols : c.diffuse.new.mols.items ≡ all_diffused config c.args.seed (state.step + 1) state.mols =
     c.in_ok-reactions.ensures.moved ∙ (λ i. all_diffused config (c.of_seed-streams.ensures i) (state.step + 1) (c.into_vec-mols.ensures i)) in
@@ -34,7 +36,7 @@ reacted-requires-clause-count g c _ _ =
 
 pub reacted-requires-clause-serials : goal.reacted-requires-clause-serials
 reacted-requires-clause-serials g c _ _ =
-    let config = c.args.config.now in
+    let config = c.args.setup.now in
     let state = c.args.state in
     let mols : c.diffuse.new.mols.items ≡ all_diffused config c.args.seed (state.step + 1) state.mols =
     c.in_ok-reactions.ensures.moved ∙ (λ i. all_diffused config (c.of_seed-streams.ensures i) (state.step + 1) (c.into_vec-mols.ensures i)) in
@@ -43,7 +45,7 @@ reacted-requires-clause-serials g c _ _ =
 
 pub reacted-requires-clause-placed : goal.reacted-requires-clause-placed
 reacted-requires-clause-placed g c _ _ =
-    let config = c.args.config.now in
+    let config = c.args.setup.now in
     let state = c.args.state in
     let mols : c.diffuse.new.mols.items ≡ all_diffused config c.args.seed (state.step + 1) state.mols =
     c.in_ok-reactions.ensures.moved ∙ (λ i. all_diffused config (c.of_seed-streams.ensures i) (state.step + 1) (c.into_vec-mols.ensures i)) in
@@ -51,7 +53,7 @@ reacted-requires-clause-placed g c _ _ =
 
 pub returns : goal.returns
 returns g c =
-    let config = c.args.config.now in
+    let config = c.args.setup.now in
     let state = c.args.state in
     let mols : c.diffuse.new.mols.items ≡ all_diffused config c.args.seed (state.step + 1) state.mols =
     c.in_ok-reactions.ensures.moved ∙ (λ i. all_diffused config (c.of_seed-streams.ensures i) (state.step + 1) (c.into_vec-mols.ensures i)) in

@@ -1,57 +1,91 @@
-use Rattle.std.proofs.Common.{◌<◌, ◌^◌, ◌++◌, ◌∷◌, [], ℕ, List, Option, length, map, take, ap, sym, ◌∙◌, subst, arith}
-use Rattle.std.specs.List.{cons_option}
+use Rattle.std.proofs.Common.{◌≡◌, ◌<◌, ◌^◌, ◌++◌, ◌∷◌, [], ℕ, List, All, Option, Some, length, get_or, map, take, ap, sym, ◌∙◌, subst, arith}
+use Rattle.std.specs.List.{cons_option, filter_map}
 use Rattle.std.proofs.lemmas.List.{append-nil}
-use Rattle.std.specs.List.{filter_map}
+use Rattle.std.proofs.lemmas.Option.{same_Some}
+use Rattle.smol_geom.specs.declared.place.Step3.{Step3}
+use Rattle.smol_types.specs.declared.draft.Draft.{Draft}
 use Rattle.smol_types.specs.declared.state.Mol.{Mol}
-use Rattle.smol_meaning.specs.Events.{lone_reaction}
-use Rattle.smol_meaning.specs.Motion.{diffused}
+use Rattle.smol_meaning.specs.declared.way.Travelled.{Travelled}
+use Rattle.smol_meaning.specs.declared.way.Travelled.TheVariants.{At, Absorbed}
+use Rattle.smol_meaning.specs.Events.{lone_reaction, reaction_drawn}
+use Rattle.smol_meaning.specs.Motion.{arrived, diffused, diffusion, end_of_move}
 use Rattle.smol_meaning.specs.Placed.{IsPlaced}
-use Rattle.smol_step.proofs.InPlace.{chosen_more, filter_map-more, in_place_next, made_gone, made_stays}
+use Rattle.smol_meaning.specs.Seen.{way}
+use Rattle.smol_step.proofs.InPlace.{InPlace, chosen_more, filter_map-more, in_place_next, made_gone, made_stays}
 use Rattle.smol_step.proofs.motion.diffuse.Goals as goal
 use Rattle.smol_step.proofs.motion.diffuse.Goals.{in-Some+in_ok-push, in_default}
 
-pub diffused-requires-clause-placed : goal.diffused-requires-clause-placed
-diffused-requires-clause-placed c =
-    let old = c.args.mols.now.items in
-    let here = c.loop-i.i in
-    let m = c.index.result.now in
-    let within : here < length old = omega arith in
-    let is = c.index.ensures ∙ in_place_next _ c.loop-i.mols.items old c.loop-i.left here m c.loop-i.invariant.moved in
-    subst (IsPlaced c.args.config.now (2 ^ 57)) (sym is) (c.requires.placed here m within)
+-- the next molecule stands where it did
+placed_next : (draft : Draft) (front now old : List Mol) (left here : ℕ) (m : Mol) → All (IsPlaced draft (2 ^ 57)) old → InPlace front now old left here
+    → here < length old → m ≡ get_or now here m → IsPlaced draft (2 ^ 57) m
+placed_next draft front now old left here m placed so_far within is =
+    subst (IsPlaced draft (2 ^ 57)) (sym (is ∙ in_place_next front now old left here m so_far)) (placed here m within)
+
+module _ (draft : Draft) (seed k : ℕ) (mol : Mol) where
+  -- at the end of the way of its displacement a molecule is what the step leaves of it
+  moves : (by : Step3) → by ≡ (diffusion draft seed k mol).by → arrived mol (way draft mol.species mol.place by) ≡ diffused draft seed k mol
+  moves by is = ap (λ (by : Step3). arrived mol (way draft mol.species mol.place by)) is
+
+  -- and there it makes the reaction that its word says
+  chooses : (after : Mol) (end : Travelled) → arrived mol end ≡ Some after → lone_reaction draft seed k mol ≡ lone_reaction draft seed k after
+  chooses after (At place) is = ap (lone_reaction draft seed k) (same_Some _ _ is)
+  chooses after (Absorbed number) is = absurd (cc)
+
+pub drawn-word-requires : goal.drawn-word-requires
+drawn-word-requires c =
+    placed_next c.args.setup.now _ c.loop-i.mols.items c.args.mols.now.items c.loop-i.left c.loop-i.i c.index.result.now c.requires.placed c.loop-i.invariant.moved (omega arith) c.index.ensures
+
+pub arrived-requires-clause-species : goal.arrived-requires-clause-species
+arrived-requires-clause-species c =
+    let placed = placed_next c.args.setup.now _ c.loop-i.mols.items c.args.mols.now.items c.loop-i.left c.loop-i.i c.index.result.now c.requires.placed c.loop-i.invariant.moved (omega arith) c.index.ensures in
+    subst (λ (draft : Draft). c.index.result.now.species < length draft.species) (sym c.panels.ensures) placed.species
+
+pub reaction-requires : goal.reaction-requires
+reaction-requires c =
+    let placed = placed_next c.args.setup.now _ c.loop-i.mols.items c.args.mols.now.items c.loop-i.left c.loop-i.i c.index.result.now c.requires.placed c.loop-i.invariant.moved (omega arith) c.index.ensures in
+    subst (λ (draft : Draft). c.index.result.now.species < length draft.species) (sym c.alone.ensures) placed.species
 
 pub loop-i-preserved : goal.loop-i-preserved
 loop-i-preserved c =
+    let draft = c.args.setup.now in
+    let seed = c.args.streams.now in
+    let k = c.args.k in
     let old = c.args.mols.now.items in
     let now = c.loop-i.mols.items in
     let here = c.loop-i.i in
     let left = c.loop-i.left in
     let m = c.index.result.now in
-    let made = diffused c.args.config.now c.args.streams.now c.args.k in
-    let chosen = lone_reaction c.args.config.now c.args.streams.now c.args.k in
+    let made = diffused draft seed k in
+    let chosen = lone_reaction draft seed k in
     let front = filter_map made (take here old) in
     let so_far = c.loop-i.invariant.moved in
     let within : here < length old = omega arith in
     let is = c.index.ensures ∙ in_place_next front now old left here m so_far in
     let step = filter_map-more made old here m within is in
-    let becomes = ap (λ (seed : ℕ). diffused c.args.config.now seed c.args.k m) (sym c.loop-i.invariant.seed) ∙ sym c.diffused.ensures.diffused in
-    let seed = c.diffused.ensures.seed ∙ c.loop-i.invariant.seed in
-    elim c.match-diffused.branch [
+    let by = c.drawn-word.ensures.by ∙ ap (λ (seed : ℕ). (diffusion draft seed k m).by) c.loop-i.invariant.seed in
+    let becomes = sym (c.arrived.ensures ∙ ap (λ (draft : Draft). arrived m (way draft m.species m.place c.drawn-word.result.by)) c.panels.ensures ∙ moves draft seed k m c.drawn-word.result.by by) in
+    let same = c.drawn-word.ensures.seed ∙ c.loop-i.invariant.seed in
+    elim c.match-arrived.branch [
       | in-Some+in_ok-push w ↦
           let after = w.in-Some.after in
           let one = becomes ∙ w.in-Some.is in
-          let drawn = w.first_order.ensures.reaction ∙ ap (λ (seed : ℕ). lone_reaction c.args.config.now seed c.args.k after) seed in
-          rw (w.streams-is, w.mols-is, w.reactions-is, w.left-is) (record {
+          let drawn = w.reaction.ensures
+          ∙ ap (λ (draft : Draft). reaction_drawn m.species 0 0 draft.reactions c.drawn-word.result.word) w.alone.ensures
+          ∙ c.drawn-word.ensures.word
+          ∙ ap (λ (seed : ℕ). lone_reaction draft seed k m) c.loop-i.invariant.seed
+          ∙ chooses draft seed k m after (end_of_move draft (diffusion draft seed k m)) one in
+          rw (w.mols-is, w.reactions-is, w.left-is) (record {
             moved = made_stays made now old left here m after within is one so_far;
             reactions = w.in_ok-push.ensures.items ∙ ap (λ (last : Option ℕ). c.loop-i.reactions.items ++ last ∷ []) drawn
                 ∙ ap (λ (first : List (Option ℕ)). first ++ chosen after ∷ []) c.loop-i.invariant.reactions
                 ∙ sym (ap (map chosen) (step ∙ ap (λ (made : Option Mol). front ++ cons_option made []) one) ∙ chosen_more chosen front after);
-            seed = w.first_order.ensures.seed ∙ seed;
+            seed = same;
           })
       | in_default w ↦
           let one = becomes ∙ w.in_default.is in
-          rw (w.streams-is, w.mols-is, w.reactions-is, w.left-is) (record {
+          rw (w.mols-is, w.reactions-is, w.left-is) (record {
             moved = made_gone made now old left here m within is one so_far;
             reactions = c.loop-i.invariant.reactions ∙ sym (ap (map chosen) (step ∙ ap (λ (made : Option Mol). front ++ cons_option made []) one ∙ append-nil front));
-            seed = seed;
+            seed = same;
           })
     ]

@@ -4,7 +4,7 @@ use Rattle.smol_meaning.specs.Encounters.{encounters_of, event_of_two}
 use Rattle.smol_meaning.specs.Step.{remains}
 use Rattle.smol_step.proofs.together.react_together.Given as goal
 
--- the encounters of the pairs so far that fired have come to a reaction
+-- the encounters so far that fired have come to a reaction
 abbrev pub invariant-loop-i : goal.invariant-loop-i
 invariant-loop-i l = record {
   events : l.reacting.events.items
