@@ -1,5 +1,4 @@
 pub mod Distances
 pub mod Meetings
-pub mod Passing
 pub mod Reaching
 pub mod TestedBox

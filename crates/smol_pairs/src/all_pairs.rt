@@ -12,8 +12,9 @@ use crate::meeting::may_react;
 use crate::ranked::Ranked;
 use crate::reach::is_out_of_reach;
 use crate::reaches::Reaches;
+use smol_sheets::Panels;
 use smol_streams::Streams;
-use smol_types::{Config, Mol};
+use smol_types::Mol;
 use std::alloc::{AllocError, Global};
 use std::thread::Threads;
 
@@ -22,30 +23,30 @@ use std::thread::Threads;
 pub fn encounters<R: Threads + Sync>(
     _rt: &R,
     alloc: Global,
-    config: &Config,
+    panels: &Panels,
     reaches: &Reaches,
     mols: &[Mol],
     free: &[bool],
     seed: u64,
     k: u32,
 ) -> Result<Vec<Encounter>, AllocError>
-    requires moved { AreMoved config.now mols.now }
-    requires reaches { reaches.now ≡ config.now }
-    requires free { free.now ≡ map (is_free config.now seed k) mols.now }
+    requires moved { AreMoved panels.now mols.now }
+    requires reaches { reaches.now ≡ panels.now }
+    requires free { free.now ≡ map (is_free panels.now seed k) mols.now }
     requires step { k ≤ 4000000 }
-    ensures encounters { IfOk result (λ found. found.items ≡ map ranks_of (encounters_of config.now seed k mols.now)) }
+    ensures encounters { IfOk result (λ found. found.items ≡ map ranks_of (encounters_of panels.now seed k mols.now)) }
     ensures ranks { IfOk result (λ found. All (AreRanksIn mols.now) found.items) }
 {
     if !reaches.meet_at_all() {
         return Ok(Vec::new(alloc));
     }
-    let found = all_encounters(alloc, config, reaches, mols, free, seed, k)?;
+    let found = all_encounters(alloc, panels, reaches, mols, free, seed, k)?;
     Ok(found)
 }
 
 // Adds the encounters of a molecule with those of higher rank.
 fn add_with(
-    config: &Config,
+    panels: &Panels,
     reaches: &Reaches,
     streams: &mut Streams,
     a: &Ranked,
@@ -54,23 +55,23 @@ fn add_with(
     k: u32,
     found: &mut Vec<Encounter>,
 ) -> Result<(), AllocError>
-    requires moved { AreMoved config.now mols.now }
-    requires free { free.now ≡ map (is_free config.now streams.old k) mols.now }
-    requires a { IsRanked config.now a.now }
-    requires reaches { reaches.now ≡ config.now }
+    requires moved { AreMoved panels.now mols.now }
+    requires free { free.now ≡ map (is_free panels.now streams.old k) mols.now }
+    requires a { IsRanked panels.now a.now }
+    requires reaches { reaches.now ≡ panels.now }
     ensures found { OnOk result (found.new.items ≡ found.old.items
-        ++ map ranks_of (encounters_with config.now streams.old k a.now.rank a.now.mol (a.now.rank + 1) (drop (a.now.rank + 1) mols.now))) }
+        ++ map ranks_of (encounters_with panels.now streams.old k a.now.rank a.now.mol (a.now.rank + 1) (drop (a.now.rank + 1) mols.now))) }
     ensures seed { streams.new ≡ streams.old }
 {
     match reaches.reach(a.mol.species) {
-        Some(reach) => add_within(config, streams, a, reach, mols, free, k, found),
+        Some(reach) => add_within(panels, streams, a, reach, mols, free, k, found),
         None => Ok(()),
     }
 }
 
 // Adds the encounters of a molecule of this reach with those of higher rank. Most of them are out of its reach.
 fn add_within(
-    config: &Config,
+    panels: &Panels,
     streams: &mut Streams,
     a: &Ranked,
     reach: u64,
@@ -79,12 +80,12 @@ fn add_within(
     k: u32,
     found: &mut Vec<Encounter>,
 ) -> Result<(), AllocError>
-    requires moved { AreMoved config.now mols.now }
-    requires free { free.now ≡ map (is_free config.now streams.old k) mols.now }
-    requires a { IsRanked config.now a.now }
-    requires reach { reach_of a.now.mol.species config.now.reactions ≡ Some reach }
+    requires moved { AreMoved panels.now mols.now }
+    requires free { free.now ≡ map (is_free panels.now streams.old k) mols.now }
+    requires a { IsRanked panels.now a.now }
+    requires reach { reach_of a.now.mol.species panels.now.reactions ≡ Some reach }
     ensures found { OnOk result (found.new.items ≡ found.old.items
-        ++ map ranks_of (encounters_with config.now streams.old k a.now.rank a.now.mol (a.now.rank + 1) (drop (a.now.rank + 1) mols.now))) }
+        ++ map ranks_of (encounters_with panels.now streams.old k a.now.rank a.now.mol (a.now.rank + 1) (drop (a.now.rank + 1) mols.now))) }
     ensures seed { streams.new ≡ streams.old }
 {
     for rank in a.rank + 1..mols.len() {
@@ -93,7 +94,7 @@ fn add_within(
                 mol: mols[rank],
                 rank,
             };
-            add_of_two(config, streams, a, &b, k, found)?;
+            add_of_two(panels, streams, a, &b, k, found)?;
         }
     }
     Ok(())
@@ -101,21 +102,21 @@ fn add_within(
 
 // Adds the encounters of two molecules, one for each reaction that they may make.
 fn add_of_two(
-    config: &Config,
+    panels: &Panels,
     streams: &mut Streams,
     a: &Ranked,
     b: &Ranked,
     k: u32,
     found: &mut Vec<Encounter>,
 ) -> Result<(), AllocError>
-    requires a { IsRanked config.now a.now }
-    requires b { IsRanked config.now b.now }
+    requires a { IsRanked panels.now a.now }
+    requires b { IsRanked panels.now b.now }
     ensures found { OnOk result (found.new.items ≡ found.old.items
-        ++ map ranks_of (encounters_of_two config.now streams.old k a.now.rank a.now.mol b.now.rank b.now.mol 0 config.now.reactions)) }
+        ++ map ranks_of (encounters_of_two panels.now streams.old k a.now.rank a.now.mol b.now.rank b.now.mol 0 panels.now.reactions)) }
     ensures seed { streams.new ≡ streams.old }
 {
-    for (number, reaction) in config.reactions().iter().enumerate() {
-        if may_react(config, streams, reaction, number as u16, a, b, k) {
+    for (number, reaction) in panels.config().reactions().iter().enumerate() {
+        if may_react(panels, streams, reaction, number as u16, a, b, k) {
             found.push(Encounter {
                 rank_a: a.rank as u32,
                 rank_b: b.rank as u32,
@@ -129,17 +130,17 @@ fn add_of_two(
 // Which molecules may react, where some reach others.
 fn all_encounters(
     alloc: Global,
-    config: &Config,
+    panels: &Panels,
     reaches: &Reaches,
     mols: &[Mol],
     free: &[bool],
     seed: u64,
     k: u32,
 ) -> Result<Vec<Encounter>, AllocError>
-    requires moved { AreMoved config.now mols.now }
-    requires reaches { reaches.now ≡ config.now }
-    requires free { free.now ≡ map (is_free config.now seed k) mols.now }
-    ensures { IfOk result (λ found. found.items ≡ map ranks_of (encounters_of config.now seed k mols.now)) }
+    requires moved { AreMoved panels.now mols.now }
+    requires reaches { reaches.now ≡ panels.now }
+    requires free { free.now ≡ map (is_free panels.now seed k) mols.now }
+    ensures { IfOk result (λ found. found.items ≡ map ranks_of (encounters_of panels.now seed k mols.now)) }
 {
     let mut found = Vec::new(alloc);
     let mut streams = Streams::of_seed(seed);
@@ -149,7 +150,7 @@ fn all_encounters(
                 mol: mols[rank],
                 rank,
             };
-            add_with(config, reaches, &mut streams, &a, mols, free, k, &mut found)?;
+            add_with(panels, reaches, &mut streams, &a, mols, free, k, &mut found)?;
         }
     }
     Ok(found)

@@ -3,7 +3,6 @@
 
 mod all_pairs;
 mod encounter;
-mod hidden;
 mod meeting;
 mod near;
 mod pairing;

@@ -4,16 +4,16 @@ ghost use Rattle.smol_types.specs.Reactions.{IsReaction, reacts_together};
 ghost use Rattle.smol_meaning.specs.Encounters.{may_react};
 ghost use Rattle.smol_pairs.specs.Ranked.{IsRanked, encounter_of};
 
-use crate::hidden::are_hidden;
 use crate::near::are_near;
 use crate::ranked::Ranked;
+use smol_sheets::Panels;
 use smol_streams::Streams;
-use smol_types::{Config, Reaction};
+use smol_types::Reaction;
 
 /// Whether two molecules may react by the reaction of this number in step k. The word is drawn last, and only for
 /// molecules that are near and not hidden.
 pub fn may_react(
-    config: &Config,
+    panels: &Panels,
     streams: &mut Streams,
     reaction: &Reaction,
     number: u16,
@@ -21,15 +21,15 @@ pub fn may_react(
     b: &Ranked,
     k: u32,
 ) -> bool
-    requires reaction { IsReaction config.now.dims (length config.now.species) reaction.now }
-    requires a { IsRanked config.now a.now }
-    requires b { IsRanked config.now b.now }
-    ensures value { result ≡ may_react config.now streams.old k reaction.now (encounter_of a.now b.now number) }
+    requires reaction { IsReaction panels.now.dims (length panels.now.species) reaction.now }
+    requires a { IsRanked panels.now a.now }
+    requires b { IsRanked panels.now b.now }
+    ensures value { result ≡ may_react panels.now streams.old k reaction.now (encounter_of a.now b.now number) }
     ensures seed { streams.new ≡ streams.old }
 {
     reacts_together(a.mol.species, b.mol.species, reaction.reactants.as_slice())
         && are_near(reaction.radius, &a.mol.place, &b.mol.place)
-        && !are_hidden(config, &a.mol, &b.mol)
+        && !panels.are_hidden(&a.mol, &b.mol)
         && u64::from(streams.pair_word((a.rank as u32, b.rank as u32), k, number))
             < reaction.threshold.0
 }

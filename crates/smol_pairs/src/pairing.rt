@@ -11,6 +11,7 @@ use crate::all_pairs::encounters;
 use crate::encounter::Encounter;
 use crate::reaches::Reaches;
 use smol_plan::Pair;
+use smol_sheets::Panels;
 use smol_types::{Config, Mol};
 use std::alloc::{AllocError, Global};
 use std::thread::Threads;
@@ -33,8 +34,9 @@ pub fn candidates<R: Threads + Sync>(
     ensures ordered { IfOk result (λ pairs. IsOrdered pairs.items) }
     ensures among { IfOk result (λ pairs. All (IsAmong config.now seed k mols.now) pairs.items) }
 {
+    let panels = Panels::of(alloc, config)?;
     let reaches = Reaches::of(alloc, config)?;
-    let encounters = encounters(rt, alloc, config, &reaches, mols, free, seed, k)?;
+    let encounters = encounters(rt, alloc, &panels, &reaches, mols, free, seed, k)?;
     let pairs = pairs_of(alloc, mols, &encounters)?;
     Ok(pairs)
 }

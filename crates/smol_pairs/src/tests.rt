@@ -7,6 +7,7 @@ use super::*;
 use smol_geom::{Place, Rect};
 use smol_num::{Micro, Threshold};
 use smol_plan::Pair;
+use smol_sheets::Panels;
 use smol_types::{
     Action, Config, Draft, Items, Letter, Mol, Name, Panel, Placement, Reaction, Species, Surface,
     Wall,
@@ -186,8 +187,9 @@ fn met<R: Threads + Sync>(
     requires two { All (λ (reaction : Reaction). length reaction.reactants ≡ 2) config.now.reactions }
 {
     let free = all_free(alloc, mols)?;
+    let panels = Panels::of(alloc, config)?;
     let reaches = Reaches::of(alloc, config)?;
-    encounters(rt, alloc, config, &reaches, mols, &free, 7, 1)
+    encounters(rt, alloc, &panels, &reaches, mols, &free, 7, 1)
 }
 
 fn pair(a: u64, b: u64, reaction: u16) -> Pair {

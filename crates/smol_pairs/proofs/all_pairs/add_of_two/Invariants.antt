@@ -6,7 +6,7 @@ use Rattle.smol_pairs.proofs.all_pairs.add_of_two.Given as goal
 -- the encounters so far and those by the reactions that are left
 abbrev pub invariant-loop-number : goal.invariant-loop-number
 invariant-loop-number l = record {
-  found : l.found.items ++ map ranks_of (encounters_of_two l.config l.streams l.k l.a.rank l.a.mol l.b.rank l.b.mol l.number (drop l.number l.reaction-items))
-      ≡ l.initial.found.items ++ map ranks_of (encounters_of_two l.config l.streams l.k l.a.rank l.a.mol l.b.rank l.b.mol 0 l.reaction-items);
+  found : l.found.items ++ map ranks_of (encounters_of_two l.panels l.streams l.k l.a.rank l.a.mol l.b.rank l.b.mol l.number (drop l.number l.reaction-items))
+      ≡ l.initial.found.items ++ map ranks_of (encounters_of_two l.panels l.streams l.k l.a.rank l.a.mol l.b.rank l.b.mol 0 l.reaction-items);
   seed : l.streams ≡ l.initial.streams;
 }

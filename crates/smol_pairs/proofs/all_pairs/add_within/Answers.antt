@@ -12,7 +12,7 @@ use Rattle.smol_pairs.proofs.all_pairs.add_within.Goals.{then-free-rank+then-not
 
 pub loop-rank-preserved : goal.loop-rank-preserved
 loop-rank-preserved c =
-    let draft = c.args.config.now in
+    let draft = c.args.panels.now in
     let seed = c.args.streams.now in
     let k = c.args.k in
     let a = c.args.a.now in

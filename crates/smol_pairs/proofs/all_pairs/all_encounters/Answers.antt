@@ -10,7 +10,7 @@ use Rattle.smol_pairs.proofs.all_pairs.all_encounters.Goals.{then-free-rank+in_o
 
 pub loop-rank-preserved : goal.loop-rank-preserved
 loop-rank-preserved c =
-    let draft = c.args.config.now in
+    let draft = c.args.panels.now in
     let seed = c.args.seed in
     let k = c.args.k in
     let mols = c.args.mols.now in
@@ -55,7 +55,7 @@ loop-rank-preserved c =
 
 pub returns : goal.returns
 returns c =
-    let draft = c.args.config.now in
+    let draft = c.args.panels.now in
     let mols = c.args.mols.now in
     let whole = λ (s : ℕ). map ranks_of (encounters_from draft s c.args.k 0 mols) in
     none_left draft c.args.seed c.args.k c.loop-rank.rank mols c.loop-rank.found.items c.loop-rank-test.false
