@@ -102,7 +102,7 @@ pub(crate) fn meet<R: Threads + Sync, G: Gate + Sync>(
     let met = encounters(
         rt,
         alloc,
-        config,
+        setup.panels(),
         setup.reaches(),
         mols,
         &reacting.free,

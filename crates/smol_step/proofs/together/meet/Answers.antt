@@ -13,5 +13,5 @@ match_pairs-requires-clause-ordered g c κs within =
     let seed = c.args.turn.now.seed in
     let k = c.args.turn.now.k in
     let mols = c.args.mols.now in
-    let met = c.deref-2.ensures.value ∙ c.in_ok-met.ensures.encounters ∙ ap (λ (draft : Draft). map ranks_of (encounters_of draft seed k mols)) c.config-config.ensures.value in
+    let met = c.deref-2.ensures.value ∙ c.in_ok-met.ensures.encounters ∙ ap (λ (draft : Draft). map ranks_of (encounters_of draft seed k mols)) c.panels.ensures in
     subst IsOrdered (sym (c.in_ok-pairs.ensures.candidates draft seed k met)) (candidates_ordered draft seed k 0 last_serial mols c.requires.moved.serials)
