@@ -3,6 +3,7 @@
 
 mod advancing;
 mod alone;
+mod arrival;
 mod motion;
 mod newborn;
 mod reacting;

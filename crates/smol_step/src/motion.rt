@@ -2,15 +2,14 @@
 ghost use Rattle.std.specs.Prelude.{◌≡◌, ◌^◌, ◌<◌, All, IfOk, OnOk, length, map};
 ghost use Rattle.smol_streams.specs.Displacement.{displacement};
 ghost use Rattle.smol_meaning.specs.Events.{lone_reaction, reaction_drawn};
-ghost use Rattle.smol_meaning.specs.Motion.{all_diffused, arrived, difstep_of, diffusion};
+ghost use Rattle.smol_meaning.specs.Motion.{all_diffused, difstep_of, diffusion};
 ghost use Rattle.smol_meaning.specs.Moves.{IsMove};
 ghost use Rattle.smol_meaning.specs.Placed.{IsPlaced};
-ghost use Rattle.smol_meaning.specs.Seen.{way};
 
+use crate::arrival::arrived;
 use crate::setup::Setup;
 use smol_geom::Step3;
 use smol_streams::{Drawn, Streams};
-use smol_travel::{Panels, Travelled, travel};
 use smol_types::{Config, Mol};
 use std::alloc::{AllocError, Global};
 
@@ -55,22 +54,6 @@ fn drawn(setup: &Setup, streams: &mut Streams, k: u32, m: &Mol) -> Drawn
         0
     };
     Drawn { by, word }
-}
-
-// A molecule at the end of its way, where it wasn't absorbed.
-fn arrived(panels: &Panels, m: &Mol, by: Step3) -> Option<Mol>
-    requires species { m.now.species < length panels.now.species }
-    requires moving { IsMove panels.now.dims m.now.place by }
-    ensures { result ≡ arrived m.now (way panels.now m.now.species m.now.place by) }
-{
-    match travel(panels, m.species, m.place, by) {
-        Travelled::At(place) => Some(Mol {
-            serial: m.serial,
-            species: m.species,
-            place,
-        }),
-        Travelled::Absorbed(_) => None,
-    }
 }
 
 /// Moves all molecules, and tells of each that is left which reaction it makes alone then: the word of that lies behind those

@@ -5,8 +5,9 @@ ghost use Rattle.smol_meaning.specs.declared.event.Birth.{Birth as TheBirth};
 ghost use Rattle.smol_meaning.specs.Events.{birth_move, born};
 ghost use Rattle.smol_meaning.specs.Placed.{IsMoveOf};
 
+use crate::arrival::arrived;
 use smol_births::Birth;
-use smol_travel::{Panels, Travelled, travel};
+use smol_travel::Panels;
 use smol_types::Mol;
 use std::alloc::AllocError;
 
@@ -15,14 +16,12 @@ fn born(panels: &Panels, birth: &Birth) -> Option<Mol>
     requires { IsMoveOf panels.now (birth_move birth.now) }
     ensures { result ≡ born panels.now birth.now }
 {
-    match travel(panels, birth.species, birth.start, birth.by) {
-        Travelled::At(place) => Some(Mol {
-            serial: birth.serial,
-            species: birth.species,
-            place,
-        }),
-        Travelled::Absorbed(_) => None,
-    }
+    let begun = Mol {
+        serial: birth.serial,
+        species: birth.species,
+        place: birth.start,
+    };
+    arrived(panels, &begun, birth.by)
 }
 
 /// Adds the products that aren't absorbed.
