@@ -16,7 +16,7 @@ use smol_commands::Flow;
 use smol_compart::place_all;
 use smol_edge::{Gate, Outlets};
 use smol_print::Pages;
-use smol_step::Panels;
+use smol_step::{Panels, Setup};
 use smol_streams::Streams;
 use smol_types::{Config, Phase, State};
 use std::alloc::Global;
@@ -27,7 +27,7 @@ fn begin_and_step<R: Threads + Sync, K: Outlets, G: Gate + Sync>(
     rt: &R,
     alloc: Global,
     config: &Config,
-    panels: &Panels,
+    setup: &Setup,
     seed: u64,
     workers: u32,
     gate: &G,
@@ -37,7 +37,7 @@ fn begin_and_step<R: Threads + Sync, K: Outlets, G: Gate + Sync>(
     outlets: &mut K,
 ) -> Result<Flow, RunFault>
     requires sound { IsSound config.now }
-    requires panels { panels.now ≡ config.now }
+    requires setup { setup.now ≡ config.now }
     requires fits { Fits config.now state.old }
     requires first { state.old.step ≡ 0 }
     requires room { state.old.next ≤ 1000001 }
@@ -59,7 +59,7 @@ fn begin_and_step<R: Threads + Sync, K: Outlets, G: Gate + Sync>(
 {
     match perform_due(alloc, config, Phase::Before, state, streams, pages, outlets) {
         Ok(Flow::Go) => make_steps(
-            rt, alloc, config, panels, seed, workers, gate, state, streams, pages, outlets,
+            rt, alloc, config, setup, seed, workers, gate, state, streams, pages, outlets,
         ),
         Ok(Flow::Stop) => Ok(Flow::Stop),
         Err(fault) => Err(fault),
@@ -71,7 +71,7 @@ fn run_on<R: Threads + Sync, K: Outlets, G: Gate + Sync>(
     rt: &R,
     alloc: Global,
     config: &Config,
-    panels: &Panels,
+    setup: &Setup,
     seed: u64,
     workers: u32,
     gate: &G,
@@ -81,7 +81,7 @@ fn run_on<R: Threads + Sync, K: Outlets, G: Gate + Sync>(
     outlets: &mut K,
 ) -> Result<Flow, RunFault>
     requires sound { IsSound config.now }
-    requires panels { panels.now ≡ config.now }
+    requires setup { setup.now ≡ config.now }
     requires fits { Fits config.now state.old }
     requires first { state.old.step ≡ 0 }
     requires room { state.old.next ≤ 1000001 }
@@ -95,7 +95,7 @@ fn run_on<R: Threads + Sync, K: Outlets, G: Gate + Sync>(
     ensures faults { CountsFault result (K.faults outlets.old) (K.faults outlets.new) }
 {
     match begin_and_step(
-        rt, alloc, config, panels, seed, workers, gate, state, streams, pages, outlets,
+        rt, alloc, config, setup, seed, workers, gate, state, streams, pages, outlets,
     ) {
         Ok(_) => perform_due(alloc, config, Phase::After, state, streams, pages, outlets),
         Err(fault) => Err(fault),
@@ -133,11 +133,14 @@ pub fn simulate<R: Threads + Sync, K: Outlets, G: Gate + Sync>(
     let Ok(panels) = Panels::of(alloc, config) else {
         return Err(RunFault::OutOfMemory);
     };
+    let Ok(setup) = Setup::of(alloc, config, &panels) else {
+        return Err(RunFault::OutOfMemory);
+    };
     match run_on(
         rt,
         alloc,
         config,
-        &panels,
+        &setup,
         seed,
         workers,
         gate,

@@ -16,7 +16,7 @@ use crate::run_fault::RunFault;
 use smol_commands::Flow;
 use smol_edge::{Gate, Outlets};
 use smol_print::Pages;
-use smol_step::{Panels, advance};
+use smol_step::{Setup, advance_with};
 use smol_streams::Streams;
 use smol_types::{Config, Items, Phase, State, last_step};
 use std::alloc::Global;
@@ -36,21 +36,19 @@ fn steps_of(config: &Config) -> u32
 fn make_step<R: Threads + Sync, G: Gate + Sync>(
     rt: &R,
     alloc: Global,
-    config: &Config,
-    panels: &Panels,
+    setup: &Setup,
     seed: u64,
     workers: u32,
     gate: &G,
     state: &mut State,
 ) -> Result<Flow, RunFault>
-    requires sound { IsSound config.now }
-    requires panels { panels.now ≡ config.now }
-    requires fits { Fits config.now state.old }
-    requires further { state.old.step + 1 ≤ last_step config.now.start config.now.stop config.now.step }
+    requires sound { IsSound setup.now }
+    requires fits { Fits setup.now state.old }
+    requires further { state.old.step + 1 ≤ last_step setup.now.start setup.now.stop setup.now.step }
     requires room { state.old.next ≤ last_serial - 16000000 }
 
-    ensures ended { EndsPart (step_of config.now seed state.old) state.new result }
-    ensures fits { OnOk result (Fits config.now state.new) }
+    ensures ended { EndsPart (step_of setup.now seed state.old) state.new result }
+    ensures fits { OnOk result (Fits setup.now state.new) }
     ensures serials { OnOk result (state.new.next ≤ state.old.next + 16000000) }
     ensures step { OnOk result (state.new.step ≡ state.old.step + 1) }
     ensures no_output { IsErrOf result RunFault.OutputFault → ⊥ }
@@ -62,11 +60,10 @@ fn make_step<R: Threads + Sync, G: Gate + Sync>(
         mols: Items::new(alloc),
         next: 0,
     };
-    match advance(
+    match advance_with(
         rt,
         alloc,
-        config,
-        panels,
+        setup,
         mem::replace(state, nobody),
         seed,
         workers,
@@ -85,7 +82,7 @@ fn perform_and_step<R: Threads + Sync, K: Outlets, G: Gate + Sync>(
     rt: &R,
     alloc: Global,
     config: &Config,
-    panels: &Panels,
+    setup: &Setup,
     seed: u64,
     workers: u32,
     gate: &G,
@@ -95,7 +92,7 @@ fn perform_and_step<R: Threads + Sync, K: Outlets, G: Gate + Sync>(
     outlets: &mut K,
 ) -> Result<Flow, RunFault>
     requires sound { IsSound config.now }
-    requires panels { panels.now ≡ config.now }
+    requires setup { setup.now ≡ config.now }
     requires fits { Fits config.now state.old }
     requires further { state.old.step + 1 ≤ last_step config.now.start config.now.stop config.now.step }
     requires room { state.old.next + 272000000 ≤ last_serial }
@@ -125,7 +122,7 @@ fn perform_and_step<R: Threads + Sync, K: Outlets, G: Gate + Sync>(
         pages,
         outlets,
     ) {
-        Ok(Flow::Go) => make_step(rt, alloc, config, panels, seed, workers, gate, state),
+        Ok(Flow::Go) => make_step(rt, alloc, setup, seed, workers, gate, state),
         Ok(Flow::Stop) => Ok(Flow::Stop),
         Err(fault) => Err(fault),
     }
@@ -136,7 +133,7 @@ pub fn make_steps<R: Threads + Sync, K: Outlets, G: Gate + Sync>(
     rt: &R,
     alloc: Global,
     config: &Config,
-    panels: &Panels,
+    setup: &Setup,
     seed: u64,
     workers: u32,
     gate: &G,
@@ -146,7 +143,7 @@ pub fn make_steps<R: Threads + Sync, K: Outlets, G: Gate + Sync>(
     outlets: &mut K,
 ) -> Result<Flow, RunFault>
     requires sound { IsSound config.now }
-    requires panels { panels.now ≡ config.now }
+    requires setup { setup.now ≡ config.now }
     requires fits { Fits config.now state.old }
     requires first { state.old.step ≡ 0 }
     requires room { state.old.next + 1088000256000000 ≤ last_serial }
@@ -167,7 +164,7 @@ pub fn make_steps<R: Threads + Sync, K: Outlets, G: Gate + Sync>(
     let last = steps_of(config);
     for _step in 0..last {
         match perform_and_step(
-            rt, alloc, config, panels, seed, workers, gate, state, streams, pages, outlets,
+            rt, alloc, config, setup, seed, workers, gate, state, streams, pages, outlets,
         ) {
             Ok(Flow::Go) => {}
             Ok(Flow::Stop) => return Ok(Flow::Stop),

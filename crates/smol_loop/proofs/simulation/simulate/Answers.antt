@@ -32,5 +32,8 @@ returns-in_default-clause-printed g c = front_nothing _ _
 pub returns-in_default-of-clause-printed : goal.returns-in_default-of-clause-printed
 returns-in_default-of-clause-printed g c = front_nothing _ _
 
+pub returns-in_default-of-2-clause-printed : goal.returns-in_default-of-2-clause-printed
+returns-in_default-of-2-clause-printed g c = front_nothing _ _
+
 pub run_on-requires-clause-first : goal.run_on-requires-clause-first
 run_on-requires-clause-first g c lifetimes within = opening_step c.args.config.now _ c.in-Ok.state c.in-Ok.ensures.opened
