@@ -1,6 +1,8 @@
 //! The whole program but for its real outside: from the words of the command line to the bytes on the outlets.
 #![tactic(auto)]
 
+#[cfg(test)]
+mod caller;
 mod ended;
 mod error_lines;
 mod loss;

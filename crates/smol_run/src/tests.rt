@@ -1,4 +1,5 @@
 //! Runs over memory: what they end with, and what they write.
+use crate::caller::printed;
 use crate::{Status, run_program};
 use smol_edge::{MemOutlets, MemSource, Open};
 use std::alloc::{AllocError, Global};
@@ -126,6 +127,15 @@ fn ends_with_status_and_bytes(rt: HostRuntime) -> Result<(), Fail> {
     for row in &rows {
         meets(&rt, row)?;
     }
+    Ok(())
+}
+
+#[test]
+fn a_caller_has_what_was_printed(rt: HostRuntime) -> Result<(), Fail> {
+    let text = text_of(rt.alloc(), &LINES)?;
+    let (status, bytes) = printed(&rt, rt.alloc(), text.as_bytes())?;
+    assert_eq!(rt; status, Status::Done);
+    assert_eq!(rt; bytes.as_slice(), b"0 3\n1 3\n".as_slice());
     Ok(())
 }
 
