@@ -1,2 +1,4 @@
 pub mod Doubles
 pub mod NumberLemmas
+pub mod Counting
+pub mod OrderLemmas

@@ -5,7 +5,7 @@ ghost use Rattle.smol_cells.specs.Numbers.{count_on, product};
 
 use crate::bounds::{above_low, boxes_on, least_double, power_of};
 use crate::boxes::Boxes;
-use smol_geom::Cuboid;
+use smol_geom::{Cuboid, Place};
 
 /// Boxes of one edge, in ticks, from a low corner on, so many on each axis and at most 2^20 in all.
 #[derive(Clone, Copy, Debug)]
@@ -23,6 +23,8 @@ pub struct Grid {
 
 impl Grid {
     ghost use Rattle.std.specs.Prelude.{unsigned_abs};
+    ghost use Rattle.smol_cells.specs.Numbers.{box_at};
+    ghost use Rattle.smol_cells.specs.Placed.{box_of_place};
     ghost use Rattle.smol_cells.specs.Numbered.{IsFilled, IsGridOf, boxes_between, number_on};
 
     /// The grid of bounds with this edge, in ticks, or with the least of its doubles that gives at most 2^20 boxes.
@@ -56,6 +58,36 @@ impl Grid {
         self.between(&c.low, &c.high)
     }
 
+    /// How many boxes there are.
+    pub fn len(&self) -> usize
+        ensures value { result ≡ product self.now.counts }
+        ensures few { result ≤ 1048576 }
+    {
+        self.counts[2] * self.counts[1] * self.counts[0]
+    }
+
+    // The number among all boxes of the box of a place.
+    pub fn box_of(&self, place: &Place) -> usize
+        requires { IsWithin (2 ^ 58) place.now.0 }
+        ensures { result ≡ box_of_place self.now place.now }
+    {
+        let x = self.number(&place.0, 0);
+        let y = self.number(&place.0, 1);
+        let z = self.number(&place.0, 2);
+        self.number_at(x, y, z)
+    }
+
+    // The number among all boxes of the box with these numbers on the axes.
+    pub fn number_at(&self, x: usize, y: usize, z: usize) -> usize
+        requires x { x < count_on self.now.counts 0 }
+        requires y { y < count_on self.now.counts 1 }
+        requires z { z < count_on self.now.counts 2 }
+        ensures value { result ≡ box_at self.now.counts x y z }
+        ensures inside { result < product self.now.counts }
+    {
+        (z * self.counts[1] + y) * self.counts[0] + x
+    }
+
     // The boxes from those of low coordinates to those of high ones.
     pub fn between(&self, low: &[i64; 3], high: &[i64; 3]) -> Boxes
         requires low { IsWithin (2 ^ 58) low.now }
@@ -80,7 +112,8 @@ impl Grid {
     fn number(&self, at: &[i64; 3], axis: usize) -> usize
         requires axis { axis < 3 }
         requires at { IsWithin (2 ^ 58) at.now }
-        ensures { result ≡ number_on self.now at.now axis }
+        ensures value { result ≡ number_on self.now at.now axis }
+        ensures inside { result < count_on self.now.counts axis }
     {
         let above = above_low(self.low[axis], at[axis]);
         (self.edges_in(above) as usize).min(self.counts[axis] - 1)
