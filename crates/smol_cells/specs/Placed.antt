@@ -1,5 +1,5 @@
 -- Places in the order of their boxes.
-use Rattle.std.specs.Prelude.{◌≡◌, ℕ, zero, suc, ◌≤◌, ◌<◌, Bool, true, [], ◌∷◌, List, length, slice_index_or}
+use Rattle.std.specs.Prelude.{◌≡◌, ℕ, zero, suc, ◌≤◌, ◌<◌, Bool, true, [], ◌∷◌, List, length, slice_index, slice_index_or}
 use Rattle.smol_geom.specs.declared.place.Place.{Place}
 use Rattle.smol_cells.specs.declared.cells.Cells.{Cells}
 use Rattle.smol_cells.specs.declared.grid.Grid.{Grid}
@@ -28,12 +28,15 @@ counted first (suc count) = first ∷ counted (suc first) count
 abbrev pub indexes : ℕ → List ℕ
 indexes count = counted 0 count
 
+-- the position of the first item of a box, or of a later box
+abbrev pub start_at : Cells → ℕ → ℕ
+start_at cells box = slice_index cells.starts.items box
+
 -- the cells are those of these places, which stand in the order of their boxes
-pub record AreInOrder (grid : Grid) (places : List Place) (cells : Cells) : Type 0 where
-  pub of : cells.grid ≡ grid
+pub record AreInOrder (places : List Place) (cells : Cells) : Type 0 where
   pub in_order : cells.in_order ≡ true
   pub count : cells.count ≡ length places
-  pub starts : AreStarts (length places) (λ q. box_of_place grid (place_at places q)) cells.starts.items
+  pub starts : AreStarts (length places) (λ q. box_of_place cells.grid (place_at places q)) cells.starts.items
 
 -- the place is in the boxes from the first to the last one of a row
 pub record IsInRow (grid : Grid) (first last row layer : ℕ) (place : Place) : Type 0 where

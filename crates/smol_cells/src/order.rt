@@ -22,7 +22,8 @@ pub struct BoxOrder {
 pub fn in_box_order(alloc: Global, grid: &Grid, places: &[Place]) -> Result<BoxOrder, AllocError>
     requires { All (λ (place : Place). IsWithin (2 ^ 58) place.0) places.now }
     ensures order { IfOk result (λ made. IsPermutation (indexes (length places.now)) made.order.items) }
-    ensures cells { IfOk result (λ made. AreInOrder grid.now (map (place_at places.now) made.order.items) made.cells) }
+    ensures grid { IfOk result (λ made. made.cells.grid ≡ grid.now) }
+    ensures cells { IfOk result (λ made. AreInOrder (map (place_at places.now) made.order.items) made.cells) }
 {
     let entries = ordered_entries(alloc, grid, places)?;
     let starts = starts_of(alloc, &entries, grid.len())?;

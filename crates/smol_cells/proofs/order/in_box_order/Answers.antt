@@ -18,7 +18,6 @@ returns-clause-cells c =
     let are : AreStarts (length entries) (number_at entries) starts =
     subst (λ (held : List Entry). AreStarts (length held) (number_at held) starts) c.deref.ensures.value c.in_ok-starts.ensures.starts in
     record {
-      of = refl;
       in_order = refl;
       count = c.len-2.ensures ∙ c.in_ok-order.order.ok.0 ∙ sym (length-map c.in_ok-order.order.items (place_at places));
       starts = subst (λ (ns : List ℕ). AreStarts (length (map (place_at places) ns)) (λ q. box_of_place grid (place_at (map (place_at places) ns) q)) starts) (sym order)
