@@ -3,3 +3,5 @@ pub mod NumberLemmas
 pub mod Counting
 pub mod OrderLemmas
 pub mod RunLemmas
+pub mod Members
+pub mod EntryLemmas

@@ -9,6 +9,7 @@ use Rattle.smol_cells.specs.Numbers.{box_at, count_on, product}
 use Rattle.smol_cells.specs.Numbered.{number_on}
 use Rattle.smol_cells.specs.Placed.{IsInRow, box_of_place, place_at}
 use Rattle.smol_cells.specs.Starts.{AreStarts, IsStart}
+use Rattle.smol_cells.proofs.NumberLemmas.{number_below}
 
 -- a place that is between two of a row is in the row, and its column between theirs
 same_row : (r s first last x count : ℕ) → x < count → last < count → r * count + first ≤ s * count + x → s * count + x ≤ r * count + last → r ≡ s
@@ -66,9 +67,6 @@ between_starts size number starts first last q are in_first in_last = (
 )
 
 module _ (grid : Grid) where
-  pub number_below : (numbers : List ℤ) (axis : ℕ) → 0 < count_on grid.counts axis → number_on grid numbers axis < count_on grid.counts axis
-  number_below numbers axis some = omega arith
-
   pub run_holds : (places : List Place) (starts : List ℕ) (first last row layer q : ℕ)
       → length starts ≡ product grid.counts + 1 → AreStarts (length places) (λ p. box_of_place grid (place_at places p)) starts
       → first ≤ last → last < count_on grid.counts 0 → row < count_on grid.counts 1 → layer < count_on grid.counts 2
@@ -83,7 +81,7 @@ module _ (grid : Grid) where
       let last_below = box_below grid.counts last row layer in_last in_row in_layer in
       let both = between_starts (length places) (λ p. box_of_place grid (place_at places p)) starts (box_at grid.counts first row layer) (box_at grid.counts last row layer) q are (omega (arith, first_below, long)) (omega (arith, last_below, long)) in (
         λ h. let held = both.0 h in
-            let is = between_of_row grid.counts first last row layer x y z (number_below place.0 0 grid.some.0) (number_below place.0 1 grid.some.1) in_last in_row held.1.0 held.1.1 in
+            let is = between_of_row grid.counts first last row layer x y z (number_below grid place.0 0 grid.some.0) (number_below grid place.0 1 grid.some.1) in_last in_row held.1.0 held.1.1 in
             (held.0, record { on_z = is.on_z; on_y = is.on_y; from = is.from; to = is.to }),
         λ h. let is : IsBetween first last row layer x y z = record { on_z = h.1.on_z; on_y = h.1.on_y; from = h.1.from; to = h.1.to } in
             both.1 (h.0, row_of_between grid.counts first last row layer x y z is),

@@ -4,3 +4,5 @@ pub mod Numbered
 pub mod Starts
 pub mod Placed
 pub mod Entries
+pub mod Ranges
+pub mod Kept

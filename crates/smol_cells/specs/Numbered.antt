@@ -1,8 +1,9 @@
 -- Box numbers in a grid.
-use Rattle.std.specs.Prelude.{◌≡◌, ℕ, ◌+◌, ◌-◌, [], ◌∷◌, ◌≤◌, List, ℤ, ◌≤ℤ◌}
+use Rattle.std.specs.Prelude.{◌≡◌, ℕ, ◌+◌, ◌-◌, ◌^◌, [], ◌∷◌, ◌≤◌, List, ℤ, ◌≤ℤ◌}
 use Rattle.smol_geom.specs.declared.cuboid.Cuboid.{Cuboid}
 use Rattle.smol_geom.specs.declared.place.Place.{Place}
-use Rattle.smol_geom.specs.Axes.{EachAxis, on_axis}
+use Rattle.smol_geom.specs.declared.rect.Rect.{Rect}
+use Rattle.smol_geom.specs.Axes.{EachAxis, IsWithin, on_axis}
 use Rattle.smol_cells.specs.declared.boxes.Boxes.{Boxes}
 use Rattle.smol_cells.specs.declared.grid.Grid.{Grid}
 use Rattle.smol_cells.specs.Bounds.{IsLeastDouble, boxes_on}
@@ -33,3 +34,21 @@ boxes_between grid low high = record { first = numbers_of grid low; last = numbe
 -- the cuboid is not empty
 abbrev pub IsFilled : Cuboid → Type 0
 IsFilled c = EachAxis (λ axis. on_axis c.low axis ≤ℤ on_axis c.high axis)
+
+-- the boxes that have a point of a cuboid
+abbrev pub boxes_of_cuboid : Grid → Cuboid → Boxes
+boxes_of_cuboid grid c = boxes_between grid c.low c.high
+
+-- the box of a place
+abbrev pub boxes_of_place : Grid → Place → Boxes
+boxes_of_place grid place = boxes_between grid place.0 place.0
+
+-- the boxes that have a point of a rectangle
+abbrev pub boxes_of_rect : Grid → Rect → Boxes
+boxes_of_rect grid rect = boxes_between grid rect.low rect.high
+
+-- the rectangle has no low end above its high end, and is of limited size
+pub record IsPlain (rect : Rect) : Type 0 where
+  pub low : IsWithin (2 ^ 58) rect.low
+  pub high : IsWithin (2 ^ 58) rect.high
+  pub ordered : EachAxis (λ axis. on_axis rect.low axis ≤ℤ on_axis rect.high axis)

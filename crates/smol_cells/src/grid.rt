@@ -22,10 +22,12 @@ pub struct Grid {
 }
 
 impl Grid {
-    ghost use Rattle.std.specs.Prelude.{unsigned_abs};
+    ghost use Rattle.std.specs.Prelude.{◌≤ℤ◌, unsigned_abs};
+    ghost use Rattle.smol_geom.specs.Axes.{on_axis};
     ghost use Rattle.smol_cells.specs.Numbers.{box_at};
+    ghost use Rattle.smol_cells.specs.Ranges.{AreAmong};
     ghost use Rattle.smol_cells.specs.Placed.{box_of_place};
-    ghost use Rattle.smol_cells.specs.Numbered.{IsFilled, IsGridOf, boxes_between, number_on};
+    ghost use Rattle.smol_cells.specs.Numbered.{IsFilled, IsGridOf, boxes_between, boxes_of_cuboid, number_on};
 
     /// The grid of bounds with this edge, in ticks, or with the least of its doubles that gives at most 2^20 boxes.
     pub fn of(bounds: &Cuboid, edge: u64) -> Grid
@@ -53,7 +55,9 @@ impl Grid {
     pub fn boxes(&self, c: &Cuboid) -> Boxes
         requires low { IsWithin (2 ^ 58) c.now.low }
         requires high { IsWithin (2 ^ 58) c.now.high }
-        ensures { result ≡ boxes_between self.now c.now.low c.now.high }
+        requires filled { IsFilled c.now }
+        ensures value { result ≡ boxes_of_cuboid self.now c.now }
+        ensures among { AreAmong self.now.counts result }
     {
         self.between(&c.low, &c.high)
     }
@@ -92,7 +96,9 @@ impl Grid {
     pub fn between(&self, low: &[i64; 3], high: &[i64; 3]) -> Boxes
         requires low { IsWithin (2 ^ 58) low.now }
         requires high { IsWithin (2 ^ 58) high.now }
-        ensures { result ≡ boxes_between self.now low.now high.now }
+        requires ordered { EachAxis (λ axis. on_axis low.now axis ≤ℤ on_axis high.now axis) }
+        ensures value { result ≡ boxes_between self.now low.now high.now }
+        ensures among { AreAmong self.now.counts result }
     {
         Boxes {
             first: [

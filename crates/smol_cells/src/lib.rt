@@ -7,6 +7,7 @@ mod cells;
 mod entries;
 mod grid;
 mod law;
+mod make;
 mod order;
 
 pub use boxes::Boxes;

@@ -2,11 +2,10 @@
 ghost use Rattle.std.specs.Prelude.{◌≡◌, ℕ, ◌^◌, All, IfOk, IsPermutation, length, map};
 ghost use Rattle.smol_geom.specs.declared.place.Place.{Place};
 ghost use Rattle.smol_geom.specs.Axes.{IsWithin};
-ghost use Rattle.smol_cells.specs.declared.entries.Entry.{Entry};
 ghost use Rattle.smol_cells.specs.Placed.{AreInOrder, indexes, place_at};
 
 use crate::cells::Cells;
-use crate::entries::{Entry, ordered_entries, starts_of};
+use crate::entries::{indexes_of, ordered_entries, starts_of};
 use crate::grid::Grid;
 use smol_geom::Place;
 use std::alloc::{AllocError, Global};
@@ -36,11 +35,4 @@ pub fn in_box_order(alloc: Global, grid: &Grid, places: &[Place]) -> Result<BoxO
         count: order.len(),
     };
     Ok(BoxOrder { order, cells })
-}
-
-// The indexes of entries.
-fn indexes_of(alloc: Global, entries: &[Entry]) -> Result<Vec<usize>, AllocError>
-    ensures { IfOk result (λ order. order.items ≡ map (λ (entry : Entry). entry.index) entries.now) }
-{
-    entries.iter().map(|entry| entry.index).collect(alloc)
 }
