@@ -5,3 +5,6 @@ pub mod OrderLemmas
 pub mod RunLemmas
 pub mod Members
 pub mod EntryLemmas
+pub mod NextLemmas
+pub mod NearLemmas
+pub mod Progress

@@ -6,3 +6,5 @@ pub mod Placed
 pub mod Entries
 pub mod Ranges
 pub mod Kept
+pub mod Next
+pub mod NearLeft

@@ -8,10 +8,12 @@ mod entries;
 mod grid;
 mod law;
 mod make;
+mod near;
 mod order;
 
 pub use boxes::Boxes;
 pub use cells::Cells;
 pub use grid::Grid;
 pub use law::{numbers_rise, reach_is_between};
+pub use near::Near;
 pub use order::{BoxOrder, in_box_order};
