@@ -80,3 +80,10 @@ left_first p count from next up inside none passes =
 
 pub left_none : (p : ℕ → Bool) (count from : ℕ) → ((n : ℕ) → from ≤ n → p n ≡ false) → filter p (counted from (count - from)) ≡ []
 left_none p count from none = filter_none p from (count - from) none
+
+-- the first of what is made of numbers up to the last one
+pub flat_first : {A : Type 0} (f : ℕ → List A) (first last : ℕ) → first ≤ last
+    → flat_map f (counted first (last + 1 - first)) ≡ f first ++ flat_map f (counted (first + 1) (last - first))
+flat_first f first last up =
+    let count : last + 1 - first ≡ suc (last - first) = omega arith in
+    ap (λ n. flat_map f (counted first n)) count ∙ ap (λ n. f first ++ flat_map f (counted n (last - first))) (sym (add-one first))

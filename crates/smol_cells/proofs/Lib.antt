@@ -8,3 +8,4 @@ pub mod EntryLemmas
 pub mod NextLemmas
 pub mod NearLemmas
 pub mod Progress
+pub mod RowLemmas

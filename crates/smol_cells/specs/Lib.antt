@@ -8,3 +8,4 @@ pub mod Ranges
 pub mod Kept
 pub mod Next
 pub mod NearLeft
+pub mod TouchingLeft

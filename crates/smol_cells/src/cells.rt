@@ -1,4 +1,4 @@
-ghost use Rattle.std.specs.Prelude.{◌≡◌, ℕ, ◌+◌, ◌<◌, ◌≤◌, All, vec_len};
+ghost use Rattle.std.specs.Prelude.{◌≡◌, ℕ, ◌+◌, ◌^◌, ◌<◌, ◌≤◌, All, vec_len};
 ghost use Rattle.smol_cells.specs.Numbers.{product};
 ghost use Rattle.smol_cells.specs.Starts.{size_of};
 
@@ -14,6 +14,7 @@ pub struct Cells {
     pub(crate) in_order: bool,
     pub(crate) count: usize,
     ghost boxed: { vec_len starts ≡ product grid.counts + 1 },
+    ghost small: { size_of in_order items.items count < 2 ^ 64 },
     ghost inside: { All (λ (start : ℕ). start ≤ size_of in_order items.items count) starts.items },
     ghost known: { All (λ (item : ℕ). item < count) items.items },
 }

@@ -10,6 +10,7 @@ mod law;
 mod make;
 mod near;
 mod order;
+mod touching;
 
 pub use boxes::Boxes;
 pub use cells::Cells;
@@ -17,3 +18,4 @@ pub use grid::Grid;
 pub use law::{numbers_rise, reach_is_between};
 pub use near::Near;
 pub use order::{BoxOrder, in_box_order};
+pub use touching::Touching;
