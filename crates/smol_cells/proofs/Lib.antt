@@ -9,3 +9,6 @@ pub mod NextLemmas
 pub mod NearLemmas
 pub mod Progress
 pub mod RowLemmas
+pub mod FilterLemmas
+pub mod NearLists
+pub mod InOrder

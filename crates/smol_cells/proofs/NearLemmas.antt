@@ -83,7 +83,7 @@ meet_of_common a b axis n on_a on_b = and_from _ _
     (le-leb (first_on a axis) (last_on b axis) (omega (arith, on_a.0, on_b.1)))
     (le-leb (first_on b axis) (last_on a axis) (omega (arith, on_b.0, on_a.1)))
 
-leb-true : (m n : ℕ) → nat_le m n ≡ true → m ≤ n
+pub leb-true : (m n : ℕ) → nat_le m n ≡ true → m ≤ n
 leb-true m n e = ⊎_elim (λ (less : n < m). absurd (false≢true (sym (lt-leb m n less) ∙ e))) (λ (up : m ≤ n). up) (cases_lt n m)
 
 common_of_meet : (a b : Boxes) (axis : ℕ) → first_on a axis ≤ last_on a axis → first_on b axis ≤ last_on b axis → meet_on a b axis ≡ true

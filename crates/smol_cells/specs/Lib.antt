@@ -9,3 +9,4 @@ pub mod Kept
 pub mod Next
 pub mod NearLeft
 pub mod TouchingLeft
+pub mod Meeting

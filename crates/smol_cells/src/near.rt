@@ -8,6 +8,7 @@ ghost use Rattle.smol_cells.specs.Ranges.{AreAmong};
 
 use crate::boxes::Boxes;
 use crate::cells::Cells;
+use smol_geom::Cuboid;
 
 // Numbers side by side, from the start up to the end.
 #[derive(Clone, Copy)]
@@ -91,6 +92,29 @@ fn run_from(run: Run, least: usize) -> Option<Run>
 }
 
 impl Cells {
+    ghost use Rattle.std.specs.Prelude.{◌^◌};
+    ghost use Rattle.smol_geom.specs.Axes.{IsWithin};
+    ghost use Rattle.smol_cells.specs.declared.boxes.Boxes.{Boxes};
+    ghost use Rattle.smol_cells.specs.Kept.{AreOf};
+    ghost use Rattle.smol_cells.specs.NearLeft.{near_left};
+    ghost use Rattle.smol_cells.specs.Numbered.{IsFilled, boxes_of_cuboid};
+    ghost use Rattle.smol_cells.specs.Ranges.{near_of};
+
+    /// The indexes of what is near a cuboid, whose boxes meet those of the cuboid: in ascending order and without repeats.
+    pub fn near(&self, c: &Cuboid) -> Near<'_>
+        requires low { IsWithin (2 ^ 58) c.now.low }
+        requires high { IsWithin (2 ^ 58) c.now.high }
+        requires filled { IsFilled c.now }
+        ensures { (ranges : List Boxes) → AreOf ranges self.now → near_left result ≡ near_of ranges (boxes_of_cuboid self.now.grid c.now) }
+    {
+        Near {
+            cells: self,
+            boxes: self.grid.boxes(c),
+            next: 0,
+            end: 0,
+        }
+    }
+
     // The next index at or behind a number of what is in the boxes.
     fn next_in(&self, boxes: &Boxes, least: usize) -> Option<Run>
         requires { AreAmong self.now.grid.counts boxes.now }

@@ -5,6 +5,7 @@ ghost use Rattle.smol_cells.specs.Ranges.{AreAmong, last_on};
 
 use crate::boxes::Boxes;
 use crate::cells::Cells;
+use smol_geom::Cuboid;
 
 /// The indexes of what is near a cuboid, row by row of boxes, with repeats. It takes no memory.
 #[derive(Drop)]
@@ -88,5 +89,27 @@ impl<'a> Iterator for Touching<'a> {
         let index = self.cells.item(self.at);
         self.at += 1;
         Some(index)
+    }
+}
+
+impl Cells {
+    ghost use Rattle.std.specs.Prelude.{◌^◌, ◌↔◌, Contains, List};
+    ghost use Rattle.smol_geom.specs.Axes.{IsWithin};
+    ghost use Rattle.smol_cells.specs.declared.boxes.Boxes.{Boxes};
+    ghost use Rattle.smol_cells.specs.Kept.{AreOf};
+    ghost use Rattle.smol_cells.specs.Numbered.{IsFilled, boxes_of_cuboid};
+    ghost use Rattle.smol_cells.specs.Ranges.{near_of};
+    ghost use Rattle.smol_cells.specs.TouchingLeft.{touching_left};
+
+    /// The indexes of what is near a cuboid, row by row of boxes, with repeats: for callers who mind neither order nor repeats.
+    pub fn touching(&self, c: &Cuboid) -> Touching<'_>
+        requires low { IsWithin (2 ^ 58) c.now.low }
+        requires high { IsWithin (2 ^ 58) c.now.high }
+        requires filled { IsFilled c.now }
+        ensures { (ranges : List Boxes) → AreOf ranges self.now → (index : ℕ)
+            → Contains (touching_left result) index ↔ Contains (near_of ranges (boxes_of_cuboid self.now.grid c.now)) index }
+    {
+        let boxes = self.grid.boxes(c);
+        Touching::from_row(self, boxes, boxes.first[2], boxes.first[1])
     }
 }
