@@ -23,7 +23,7 @@ pub struct Entry {
 }
 
 // The entries of places, in the order of their boxes.
-pub fn ordered_entries(
+pub fn ordered_entries_of_places(
     alloc: Global,
     grid: &Grid,
     places: &[Place],
@@ -55,7 +55,7 @@ fn entries_of_places(alloc: Global, grid: &Grid, places: &[Place]) -> Result<Vec
 }
 
 // The entries of things in boxes, in the order of the boxes.
-pub fn ordered_entries_of(
+pub fn ordered_entries_of_ranges(
     alloc: Global,
     grid: &Grid,
     ranges: &[Boxes],
@@ -64,13 +64,13 @@ pub fn ordered_entries_of(
     ensures entries { IfOk result (λ entries. IsPermutation (entries_from grid.now.counts 0 ranges.now) entries.items) }
     ensures rising { IfOk result (λ entries. IsNonDecreasingBy (λ (entry : Entry). entry.number) entries.items) }
 {
-    let mut entries = entries_of(alloc, grid, ranges)?;
+    let mut entries = entries_of_ranges(alloc, grid, ranges)?;
     sort_entries(&mut entries);
     Ok(entries)
 }
 
 // The entries of things in boxes.
-fn entries_of(alloc: Global, grid: &Grid, ranges: &[Boxes]) -> Result<Vec<Entry>, AllocError>
+fn entries_of_ranges(alloc: Global, grid: &Grid, ranges: &[Boxes]) -> Result<Vec<Entry>, AllocError>
     requires { All (AreAmong grid.now.counts) ranges.now }
     ensures { IfOk result (λ entries. entries.items ≡ entries_from grid.now.counts 0 ranges.now) }
 {

@@ -22,3 +22,6 @@ pub use law::{
 pub use near::Near;
 pub use order::{BoxOrder, in_box_order};
 pub use touching::Touching;
+
+#[cfg(test)]
+mod tests;

@@ -8,7 +8,7 @@ ghost use Rattle.smol_cells.specs.Ranges.{AreAmong};
 
 use crate::boxes::Boxes;
 use crate::cells::Cells;
-use crate::entries::{indexes_of, ordered_entries_of, starts_of};
+use crate::entries::{indexes_of, ordered_entries_of_ranges, starts_of};
 use crate::grid::Grid;
 use smol_geom::{Place, Rect};
 use std::alloc::{AllocError, Global};
@@ -40,7 +40,7 @@ impl Cells {
         ensures grid { IfOk result (λ cells. cells.grid ≡ grid.now) }
         ensures of { IfOk result (λ cells. AreOf ranges.now cells) }
     {
-        let entries = ordered_entries_of(alloc, grid, ranges)?;
+        let entries = ordered_entries_of_ranges(alloc, grid, ranges)?;
         let starts = starts_of(alloc, &entries, grid.len())?;
         let items = indexes_of(alloc, &entries)?;
         Ok(Cells {

@@ -5,7 +5,7 @@ ghost use Rattle.smol_geom.specs.Axes.{IsWithin};
 ghost use Rattle.smol_cells.specs.Placed.{AreInOrder, indexes, place_at};
 
 use crate::cells::Cells;
-use crate::entries::{indexes_of, ordered_entries, starts_of};
+use crate::entries::{indexes_of, ordered_entries_of_places, starts_of};
 use crate::grid::Grid;
 use smol_geom::Place;
 use std::alloc::{AllocError, Global};
@@ -24,7 +24,7 @@ pub fn in_box_order(alloc: Global, grid: &Grid, places: &[Place]) -> Result<BoxO
     ensures grid { IfOk result (λ made. made.cells.grid ≡ grid.now) }
     ensures cells { IfOk result (λ made. AreInOrder (map (place_at places.now) made.order.items) made.cells) }
 {
-    let entries = ordered_entries(alloc, grid, places)?;
+    let entries = ordered_entries_of_places(alloc, grid, places)?;
     let starts = starts_of(alloc, &entries, grid.len())?;
     let order = indexes_of(alloc, &entries)?;
     let cells = Cells {

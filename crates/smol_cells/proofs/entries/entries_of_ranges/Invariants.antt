@@ -1,6 +1,6 @@
 use Rattle.std.proofs.Common.{◌≡◌, ◌++◌, drop}
 use Rattle.smol_cells.specs.Entries.{entries_from}
-use Rattle.smol_cells.proofs.entries.entries_of.Given as goal
+use Rattle.smol_cells.proofs.entries.entries_of_ranges.Given as goal
 
 -- the entries so far, before those of the rest
 abbrev pub invariant-loop-index : goal.invariant-loop-index

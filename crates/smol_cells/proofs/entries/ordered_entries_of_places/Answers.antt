@@ -3,7 +3,7 @@ use Rattle.std.specs.Prelude.{IsPermutation}
 use Rattle.std.proofs.lemmas.List.Sorted.{All-permutation, IsPermutation-map}
 use Rattle.smol_cells.specs.declared.entries.Entry.{Entry}
 use Rattle.smol_cells.specs.Entries.{IsOfPlace}
-use Rattle.smol_cells.proofs.entries.ordered_entries.Goals as goal
+use Rattle.smol_cells.proofs.entries.ordered_entries_of_places.Goals as goal
 
 pub returns-clause-places : goal.returns-clause-places
 returns-clause-places c =
