@@ -1,12 +1,11 @@
 -- The cells of places in order are those of their boxes.
-use Rattle.std.proofs.Common.{◌≡◌, ◌∙◌, ℕ, ◌<◌, ◌≤◌, Bool, true, false, List, All, length, map, get_or, refl, sym, ap, subst, arith}
+use Rattle.std.proofs.Common.{◌≡◌, ◌∙◌, ℕ, ◌<◌, Bool, true, false, List, length, map, get_or, refl, sym, subst, arith}
 use Rattle.std.specs.Prelude.{ℤ, ◌≤ℤ◌}
 use Rattle.std.proofs.lemmas.Bool.{false≢true}
 use Rattle.std.proofs.lemmas.Int.{ints}
 use Rattle.std.proofs.lemmas.List.{get_or-map, length-map}
 use Rattle.std.proofs.lemmas.List.Elements.{All-map}
 use Rattle.smol_geom.specs.declared.place.Place.{Place}
-use Rattle.smol_geom.specs.Axes.{on_axis}
 use Rattle.smol_cells.specs.declared.boxes.Boxes.{Boxes}
 use Rattle.smol_cells.specs.declared.cells.Cells.{Cells}
 use Rattle.smol_cells.specs.declared.grid.Grid.{Grid}
@@ -14,7 +13,7 @@ use Rattle.smol_cells.specs.Kept.{AreOf, item, size}
 use Rattle.smol_cells.specs.Numbers.{box_at}
 use Rattle.smol_cells.specs.Numbered.{boxes_of_place, number_on}
 use Rattle.smol_cells.specs.Placed.{AreInOrder, box_of_place, nowhere, place_at}
-use Rattle.smol_cells.specs.Ranges.{AreAmong, HasBox, HasNumber, IsOn, boxes_at}
+use Rattle.smol_cells.specs.Ranges.{AreAmong, HasBox, HasNumber, boxes_at}
 use Rattle.smol_cells.specs.Starts.{AreStarts, item_of, size_of}
 use Rattle.smol_cells.proofs.NumberLemmas.{between_among}
 

@@ -1,19 +1,18 @@
 -- What is in boxes is what is near them.
-use Rattle.std.proofs.Common.{◌≡◌, ◌∙◌, ℕ, zero, suc, ◌+◌, ◌-◌, ◌<◌, ◌≤◌, ◌⊎◌, ◌↔◌, Bool, true, false, ◌&&◌, List, [], ◌∷◌, All, length, map, get_or, max, refl, sym, ap, subst, ⊎_elim, arith}
-use Rattle.std.specs.Prelude.{filter, flat_map, nat_le}
-use Rattle.std.proofs.lemmas.Bool.{and_from, and_parts, cases_Bool, cases_lt, le-leb, lt-leb, false_from_ne_true, false≢true}
+use Rattle.std.proofs.Common.{◌≡◌, ◌∙◌, ℕ, ◌+◌, ◌-◌, ◌<◌, ◌≤◌, ◌↔◌, Bool, true, false, List, All, length, max, refl, sym, subst, ⊎_elim, arith}
+use Rattle.std.specs.Prelude.{nat_le}
+use Rattle.std.proofs.lemmas.Bool.{and_from, and_parts, cases_lt, le-leb, lt-leb, false≢true}
 use Rattle.std.proofs.lemmas.List.{get_or_past}
-use Rattle.std.proofs.lemmas.List.Elements.{All-get_or}
 use Rattle.smol_geom.specs.Moments.{Has}
 use Rattle.smol_cells.specs.declared.boxes.Boxes.{Boxes}
 use Rattle.smol_cells.specs.declared.cells.Cells.{Cells}
-use Rattle.smol_cells.specs.Kept.{AreOf, item, items_between, items_in, items_in_layer, items_in_row, size}
+use Rattle.smol_cells.specs.Kept.{AreOf, item, items_in, items_in_layer, items_in_row, size}
 use Rattle.smol_cells.specs.Numbers.{box_at, count_on, product}
 use Rattle.smol_cells.specs.Placed.{counted, start_at}
-use Rattle.smol_cells.specs.Ranges.{AreAmong, HasBox, HasNumber, IsOn, are_meeting, boxes_at, first_on, last_on, meet_on, numbers_on}
+use Rattle.smol_cells.specs.Ranges.{AreAmong, IsOn, are_meeting, boxes_at, first_on, last_on, meet_on, numbers_on}
 use Rattle.smol_cells.specs.Starts.{item_of, size_of}
 use Rattle.smol_cells.proofs.Members.{counted_has, flat_has, has_counted, has_flat, has_map, has_numbers, map_has, numbers_have}
-use Rattle.smol_cells.proofs.RunLemmas.{IsBetween, between_of_row, between_starts, box_below, row_of_between}
+use Rattle.smol_cells.proofs.RunLemmas.{between_of_row, between_starts, box_below, row_of_between}
 
 -- a thing in boxes is at a position of one of their rows
 pub record IsInRows (cells : Cells) (boxes : Boxes) (index : ℕ) : Type 0 where

@@ -1,12 +1,9 @@
 -- The lists of what is near.
-use Rattle.std.proofs.Common.{◌≡◌, ◌∙◌, ℕ, ◌+◌, ◌-◌, ◌<◌, ◌≤◌, ◌⊎◌, ◌↔◌, Bool, true, false, List, length, map, get_or, refl, sym, ap, subst, ⊎_elim, arith}
-use Rattle.std.specs.Prelude.{ℤ, ◌≤ℤ◌, Contains, filter}
+use Rattle.std.proofs.Common.{◌≡◌, ◌∙◌, ℕ, ◌+◌, ◌-◌, ◌<◌, ◌≤◌, ◌↔◌, true, false, List, length, map, get_or, sym, ap, subst, ⊎_elim, arith}
+use Rattle.std.specs.Prelude.{ℤ, Contains, filter}
 use Rattle.std.proofs.lemmas.Bool.{and_from, and_parts, cases_Bool, false≢true, le-leb}
-use Rattle.std.proofs.lemmas.Int.{ints}
 use Rattle.std.proofs.lemmas.List.{get_or-map, length-map}
 use Rattle.smol_geom.specs.declared.cuboid.Cuboid.{Cuboid}
-use Rattle.smol_geom.specs.declared.place.Place.{Place}
-use Rattle.smol_geom.specs.Axes.{EachAxis, on_axis}
 use Rattle.smol_geom.specs.Moments.{Has}
 use Rattle.smol_cells.specs.declared.boxes.Boxes.{Boxes}
 use Rattle.smol_cells.specs.declared.cells.Cells.{Cells}
@@ -14,12 +11,12 @@ use Rattle.smol_cells.specs.declared.grid.Grid.{Grid}
 use Rattle.smol_cells.specs.Kept.{AreOf, items_in}
 use Rattle.smol_cells.specs.Meeting.{MeetsBetween, ShareNumbers}
 use Rattle.smol_cells.specs.Next.{has_number}
-use Rattle.smol_cells.specs.Numbered.{boxes_between, boxes_of_cuboid, boxes_of_place}
-use Rattle.smol_cells.specs.Placed.{AreInOrder, counted, indexes, place_at}
+use Rattle.smol_cells.specs.Numbered.{boxes_between, boxes_of_cuboid}
+use Rattle.smol_cells.specs.Placed.{counted, indexes}
 use Rattle.smol_cells.specs.Ranges.{AreAmong, are_meeting, boxes_at, first_on, last_on, meet_on, near_of}
 use Rattle.smol_cells.proofs.FilterLemmas.{filter_has, filter_same, has_filter}
 use Rattle.smol_cells.proofs.Members.{contains_of_has, counted_has, has_counted, has_of_contains}
-use Rattle.smol_cells.proofs.NearLemmas.{has_of_near, known_in, leb-true, near_of_has}
+use Rattle.smol_cells.proofs.NearLemmas.{has_of_near, leb-true, near_of_has}
 use Rattle.smol_cells.proofs.NextLemmas.{has_of_number, number_of_has}
 use Rattle.smol_cells.proofs.NumberLemmas.{number_up}
 

@@ -1,12 +1,12 @@
 -- The starts of entries in order are those of their places.
-use Rattle.std.proofs.Common.{◌≡◌, ◌∙◌, ℕ, ◌<◌, ◌≤◌, List, All, length, get_or, map, sym, ap, subst, arith}
+use Rattle.std.proofs.Common.{◌≡◌, ◌∙◌, ℕ, ◌<◌, ◌≤◌, List, All, length, map, sym, ap, subst, arith}
 use Rattle.std.proofs.lemmas.List.{get_or-map, length-map}
 use Rattle.smol_geom.specs.declared.place.Place.{Place}
 use Rattle.smol_cells.specs.declared.entries.Entry.{Entry}
 use Rattle.smol_cells.specs.declared.grid.Grid.{Grid}
 use Rattle.smol_cells.specs.Entries.{IsOfPlace, entry_at, number_at}
 use Rattle.smol_cells.specs.Placed.{box_of_place, nowhere, place_at}
-use Rattle.smol_cells.specs.Starts.{AreStarts, IsStart}
+use Rattle.smol_cells.specs.Starts.{AreStarts}
 
 -- starts go by the box of each position alone
 pub same_starts : (size other : ℕ) (n m : ℕ → ℕ) (starts : List ℕ) → size ≡ other → ((q : ℕ) → q < size → n q ≡ m q)

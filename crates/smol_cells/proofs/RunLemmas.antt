@@ -1,14 +1,13 @@
 -- The items of a row of boxes stand between two starts.
-use Rattle.std.proofs.Common.{◌≡◌, ◌∙◌, ℕ, ◌+◌, ◌-◌, ◌*◌, ◌<◌, ◌≤◌, ◌↔◌, List, length, get_or, ap, subst, sym, ⊎_elim, arith}
+use Rattle.std.proofs.Common.{◌≡◌, ℕ, ◌+◌, ◌*◌, ◌<◌, ◌≤◌, ◌↔◌, List, length, get_or, ap, sym, ⊎_elim, arith}
 use Rattle.std.proofs.lemmas.Bool.{cases_lt, cases_order}
 use Rattle.std.proofs.lemmas.Nat.{row_fits, same_from_place}
-use Rattle.std.specs.Prelude.{ℤ}
 use Rattle.smol_geom.specs.declared.place.Place.{Place}
 use Rattle.smol_cells.specs.declared.grid.Grid.{Grid}
 use Rattle.smol_cells.specs.Numbers.{box_at, count_on, product}
 use Rattle.smol_cells.specs.Numbered.{number_on}
 use Rattle.smol_cells.specs.Placed.{IsInRow, box_of_place, place_at}
-use Rattle.smol_cells.specs.Starts.{AreStarts, IsStart}
+use Rattle.smol_cells.specs.Starts.{AreStarts}
 use Rattle.smol_cells.proofs.NumberLemmas.{number_below}
 
 -- a place that is between two of a row is in the row, and its column between theirs

@@ -1,7 +1,5 @@
 -- What iterators over what is near have left.
-use Rattle.std.specs.Prelude.{ℕ, ◌-◌, Bool, List, filter}
-use Rattle.smol_cells.specs.declared.boxes.Boxes.{Boxes}
-use Rattle.smol_cells.specs.declared.cells.Cells.{Cells}
+use Rattle.std.specs.Prelude.{ℕ, ◌-◌, List, filter}
 use Rattle.smol_cells.specs.declared.near.Near.{Near}
 use Rattle.smol_cells.specs.Kept.{items_in}
 use Rattle.smol_cells.specs.Next.{has_number}

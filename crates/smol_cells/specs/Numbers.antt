@@ -1,6 +1,5 @@
 -- Numbers of boxes on an axis, and among all boxes.
-use Rattle.std.specs.Prelude.{ℕ, ◌+◌, ◌-◌, ◌*◌, ◌/◌, List, ℤ, ◌-ℤ◌, if◌then◌else◌, int_lt, min, slice_index_or, unsigned_abs}
-use Rattle.smol_geom.specs.Axes.{on_axis}
+use Rattle.std.specs.Prelude.{ℕ, ◌+◌, ◌*◌, ◌/◌, List, ℤ, ◌-ℤ◌, if◌then◌else◌, int_lt, min, slice_index_or, unsigned_abs}
 
 -- how far a coordinate is above the low end of an axis: 0 where it is below
 abbrev pub above_low : ℤ → ℤ → ℕ

@@ -1,5 +1,5 @@
 -- Places in the order of their boxes.
-use Rattle.std.specs.Prelude.{◌≡◌, ℕ, zero, suc, ◌≤◌, ◌<◌, Bool, true, [], ◌∷◌, List, length, slice_index, slice_index_or}
+use Rattle.std.specs.Prelude.{◌≡◌, ℕ, zero, suc, ◌≤◌, true, [], ◌∷◌, List, length, slice_index, slice_index_or}
 use Rattle.smol_geom.specs.declared.place.Place.{Place}
 use Rattle.smol_cells.specs.declared.cells.Cells.{Cells}
 use Rattle.smol_cells.specs.declared.grid.Grid.{Grid}

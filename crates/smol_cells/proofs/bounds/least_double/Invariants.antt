@@ -1,4 +1,4 @@
-use Rattle.std.proofs.Common.{ℕ, ◌-◌, ◌^◌, ◌<◌, ◌≤◌}
+use Rattle.std.proofs.Common.{◌-◌, ◌^◌, ◌<◌, ◌≤◌}
 use Rattle.smol_cells.proofs.Doubles.{IsDouble}
 use Rattle.smol_cells.proofs.bounds.least_double.Given as goal
 

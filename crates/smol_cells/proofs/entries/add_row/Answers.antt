@@ -1,5 +1,4 @@
-use Rattle.std.proofs.Common.{◌≡◌, ◌∙◌, ◌++◌, [], ◌∷◌, ap, arith}
-use Rattle.smol_cells.specs.declared.entries.Entry.{Entry}
+use Rattle.std.proofs.Common.{◌∙◌, ◌++◌, [], ◌∷◌, ap, arith}
 use Rattle.smol_cells.specs.Numbers.{box_at}
 use Rattle.smol_cells.proofs.Counting.{map_more_counted}
 use Rattle.smol_cells.proofs.entries.add_row.Goals as goal

@@ -1,9 +1,9 @@
-use Rattle.std.proofs.Common.{◌≡◌, ◌∙◌, ℕ, ◌++◌, [], ◌∷◌, length, map, ap}
+use Rattle.std.proofs.Common.{◌≡◌, ◌∙◌, ◌++◌, [], ◌∷◌, ap}
 use Rattle.std.proofs.lemmas.List.{map_push}
 use Rattle.std.proofs.lemmas.List.Elements.{All-push}
 use Rattle.smol_cells.specs.declared.entries.Entry.{Entry}
 use Rattle.smol_cells.specs.Entries.{IsOfPlace}
-use Rattle.smol_cells.specs.Placed.{indexes, place_at, box_of_place}
+use Rattle.smol_cells.specs.Placed.{place_at, box_of_place}
 use Rattle.smol_cells.proofs.Counting.{indexes_push}
 use Rattle.smol_cells.proofs.entries.entries_of_places.Goals as goal
 

@@ -1,10 +1,10 @@
-use Rattle.std.proofs.Common.{◌≡◌, ◌∙◌, List, ℕ, length, map, refl, sym, ap, subst, arith}
+use Rattle.std.proofs.Common.{◌≡◌, ◌∙◌, List, ℕ, length, map, refl, sym, ap, subst}
 use Rattle.std.proofs.lemmas.List.{length-map}
 use Rattle.smol_cells.specs.declared.entries.Entry.{Entry}
-use Rattle.smol_cells.specs.Entries.{IsOfPlace, number_at}
+use Rattle.smol_cells.specs.Entries.{number_at}
 use Rattle.smol_cells.specs.Placed.{box_of_place, place_at}
 use Rattle.smol_cells.specs.Starts.{AreStarts}
-use Rattle.smol_cells.proofs.OrderLemmas.{as_many, starts_in_order}
+use Rattle.smol_cells.proofs.OrderLemmas.{starts_in_order}
 use Rattle.smol_cells.proofs.order.in_box_order.Goals as goal
 
 pub returns-clause-cells : goal.returns-clause-cells

@@ -1,5 +1,5 @@
-use Rattle.std.proofs.Common.{◌≡◌, ◌∙◌, ◌-◌, List, ℕ, map, sym, ap, subst}
-use Rattle.smol_cells.specs.Kept.{item, items_between, items_in_row}
+use Rattle.std.proofs.Common.{◌≡◌, ◌∙◌, ◌-◌, List, ℕ, sym, subst}
+use Rattle.smol_cells.specs.Kept.{items_between, items_in_row}
 use Rattle.smol_cells.specs.Next.{IsNext}
 use Rattle.smol_cells.specs.Placed.{counted}
 use Rattle.smol_cells.proofs.Counting.{items_in_order}

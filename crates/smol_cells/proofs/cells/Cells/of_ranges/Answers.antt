@@ -1,8 +1,7 @@
-use Rattle.std.proofs.Common.{◌≡◌, ◌∙◌, List, ℕ, ◌<◌, ◌≤◌, All, length, map, get_or, refl, sym, ap, subst, arith}
+use Rattle.std.proofs.Common.{◌≡◌, ◌∙◌, List, ℕ, ◌<◌, ◌≤◌, length, map, get_or, refl, sym, ap, subst, arith}
 use Rattle.std.proofs.lemmas.List.Elements.{All-from_get_or, All-map, All-same}
 use Rattle.smol_cells.specs.declared.entries.Entry.{Entry}
 use Rattle.smol_cells.specs.Entries.{number_at}
-use Rattle.smol_cells.specs.Numbers.{box_at}
 use Rattle.smol_cells.specs.Ranges.{HasNumber, boxes_at}
 use Rattle.smol_cells.specs.Starts.{AreStarts}
 use Rattle.smol_cells.proofs.EntryLemmas.{complete_at, item_there, items_as_many, sound_at}

@@ -1,9 +1,7 @@
-use Rattle.std.proofs.Common.{◌≡◌, ◌∷◌, ◌+◌, ◌-◌, ◌<◌, true, arith}
-use Rattle.std.specs.Prelude.{filter}
+use Rattle.std.proofs.Common.{◌≡◌, true, arith}
 use Rattle.smol_cells.specs.Kept.{items_in}
 use Rattle.smol_cells.specs.NearLeft.{near_left}
 use Rattle.smol_cells.specs.Next.{IsNextRun, has_number}
-use Rattle.smol_cells.specs.Placed.{counted}
 use Rattle.smol_cells.proofs.Counting.{left_first, left_none}
 use Rattle.smol_cells.proofs.NearLemmas.{known_in}
 use Rattle.smol_cells.proofs.NextLemmas.{has_of_number}

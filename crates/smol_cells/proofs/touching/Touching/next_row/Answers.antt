@@ -1,4 +1,4 @@
-use Rattle.std.proofs.Common.{◌≡◌, ◌∙◌, ℕ, ◌+◌, ◌-◌, ◌*◌, ◌<◌, sym, subst, arith}
+use Rattle.std.proofs.Common.{◌≡◌, ◌∙◌, ℕ, ◌+◌, ◌-◌, ◌*◌, ◌<◌, sym, subst}
 use Rattle.smol_cells.specs.Ranges.{first_on, last_on}
 use Rattle.smol_cells.specs.TouchingLeft.{rows_left}
 use Rattle.smol_cells.proofs.RowLemmas.{fewer_rows, next_in_layer, next_layer}

@@ -1,4 +1,4 @@
-use Rattle.std.proofs.Common.{◌≡◌, ◌∙◌, ◌+◌, [], ◌∷◌, ◌++◌, List, ℕ, sym, ap, arith}
+use Rattle.std.proofs.Common.{◌∙◌, ◌+◌, ◌∷◌, ◌++◌, List, ℕ, sym, ap, arith}
 use Rattle.smol_cells.specs.Kept.{items_between}
 use Rattle.smol_cells.specs.TouchingLeft.{behind_row, touching_left}
 use Rattle.smol_cells.proofs.Progress.{progress}
