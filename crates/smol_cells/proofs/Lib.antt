@@ -1,0 +1,14 @@
+pub mod Doubles
+pub mod NumberLemmas
+pub mod Counting
+pub mod OrderLemmas
+pub mod RunLemmas
+pub mod Members
+pub mod EntryLemmas
+pub mod NextLemmas
+pub mod NearLemmas
+pub mod Progress
+pub mod RowLemmas
+pub mod FilterLemmas
+pub mod NearLists
+pub mod InOrder

@@ -1,0 +1,12 @@
+pub mod Bounds
+pub mod Numbers
+pub mod Numbered
+pub mod Starts
+pub mod Placed
+pub mod Entries
+pub mod Ranges
+pub mod Kept
+pub mod Next
+pub mod NearLeft
+pub mod TouchingLeft
+pub mod Meeting
