@@ -1,0 +1,5 @@
+pub mod Doubles
+pub mod NumberLemmas
+pub mod Counting
+pub mod OrderLemmas
+pub mod RunLemmas
