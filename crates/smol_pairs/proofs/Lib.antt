@@ -1,4 +1,17 @@
+pub mod AllMet
 pub mod Distances
+pub mod KeyMembers
+pub mod KeyOrder
+pub mod KeysFound
+pub mod LongestReach
 pub mod Meetings
+pub mod Members
+pub mod MetLemmas
+pub mod PlacesMet
+pub mod Plain
 pub mod Reaching
+pub mod RisingLists
+pub mod RowLemmas
+pub mod SearchLemmas
+pub mod SeekerLemmas
 pub mod TestedBox

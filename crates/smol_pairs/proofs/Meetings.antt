@@ -1,8 +1,7 @@
 -- The encounters of a step, and the pairs that they make.
-use Rattle.std.proofs.Common.{◌≡◌, ℕ, ◌+◌, ◌<◌, ◌≤◌, Bool, true, false, List, [], ◌∷◌, ◌++◌, length, get_or, drop, map, All, Option, None, refl, sym, ap, subst, ◌∙◌, arith, append_assoc, append-nil, drop-cons, add-one}
-use Rattle.std.specs.Prelude.{if◌then◌else◌, is_some, filter, Contains}
-use Rattle.std.specs.List.{list_any}
-use Rattle.std.proofs.lemmas.List.{drop_all, get_or-map, map-append}
+use Rattle.std.proofs.Common.{◌≡◌, ℕ, ◌+◌, ◌<◌, ◌≤◌, Bool, true, false, List, [], ◌∷◌, ◌++◌, length, map, All, Option, None, refl, sym, ap, subst, ◌∙◌, arith}
+use Rattle.std.specs.Prelude.{if◌then◌else◌, filter, Contains}
+use Rattle.std.proofs.lemmas.List.{map-append}
 use Rattle.std.specs.Option.{option_map_or}
 use Rattle.std.proofs.lemmas.Option.{slice_get_within}
 use Rattle.std.proofs.lemmas.List.Elements.{All-nil, All-cons, All-append, All-head, All-map, All-tail, All-weaker, Contains-append_left, Contains-append_right, Contains-push}
@@ -16,66 +15,12 @@ use Rattle.smol_meaning.specs.Encounters.{Encounter, candidates_of, encounters_f
 use Rattle.smol_meaning.specs.Events.{is_free}
 use Rattle.smol_meaning.specs.Meeting.{IsEncounter}
 use Rattle.smol_meaning.proofs.Meeting.{encounters_are}
-use Rattle.smol_pairs.specs.declared.encounter.Encounter.{Encounter as Ranks}
 use Rattle.smol_pairs.specs.Encounters.{AreRanksIn, pair_at, ranks_of}
 use Rattle.smol_pairs.specs.Moved.{IsAmong, free_serials}
-use Rattle.smol_pairs.specs.Reach.{reach_of, reaches_of}
-use Rattle.smol_pairs.proofs.Reaching.{IsBeyond, beyond_first, no_reach, not_by}
-
--- where encounters come before others, or are left out, those that are found are those so far and the others
-pub found_taken : (here there all : List Encounter) (taken : Bool) (so_far new : List Ranks) → all ≡ (if taken then here else []) ++ there → taken ≡ true
-    → new ≡ so_far ++ map ranks_of here → new ++ map ranks_of there ≡ so_far ++ map ranks_of all
-found_taken here there all true so_far new is taken added =
-    ap (λ (found : List Ranks). found ++ map ranks_of there) added ∙ append_assoc so_far (map ranks_of here) (map ranks_of there)
-    ∙ ap (λ (found : List Ranks). so_far ++ found) (sym (map-append ranks_of here there) ∙ ap (map ranks_of) (sym is))
-found_taken here there all false so_far new is taken added = absurd (cc)
-
-pub found_passed : (here there all : List Encounter) (taken : Bool) (so_far : List Ranks) → all ≡ (if taken then here else []) ++ there → taken ≡ false
-    → so_far ++ map ranks_of there ≡ so_far ++ map ranks_of all
-found_passed here there all true so_far is taken = absurd (cc)
-found_passed here there all false so_far is taken = ap (λ (encounters : List Encounter). so_far ++ map ranks_of encounters) (sym is)
-
--- the same where others follow none
-pub found_none : (here there all : List Encounter) (taken : Bool) (so_far : List Ranks) → all ≡ (if taken then here else []) ++ there → here ≡ []
-    → so_far ++ map ranks_of there ≡ so_far ++ map ranks_of all
-found_none here there all true so_far is none =
-    ap (λ (encounters : List Encounter). so_far ++ map ranks_of encounters) (sym (ap (λ (first : List Encounter). first ++ there) none) ∙ sym is)
-found_none here there all false so_far is none = ap (λ (encounters : List Encounter). so_far ++ map ranks_of encounters) (sym is)
+use Rattle.smol_pairs.specs.Reach.{longest_of, reach_of, reaches_of}
+use Rattle.smol_pairs.proofs.Reaching.{IsBeyond, beyond_first, no_reach, not_by, not_by_second}
 
 module _ (draft : Draft) (seed k : ℕ) where
-  -- the encounters of a molecule with those that are left, the next one first
-  pub with_next : (rank_a : ℕ) (a : Mol) (rank : ℕ) (mols : List Mol) (d : Mol) → rank < length mols
-      → encounters_with draft seed k rank_a a rank (drop rank mols)
-      ≡ (if is_free draft seed k (get_or mols rank d) then encounters_of_two draft seed k rank_a a rank (get_or mols rank d) 0 draft.reactions else [])
-      ++ encounters_with draft seed k rank_a a (rank + 1) (drop (rank + 1) mols)
-  with_next rank_a a rank mols d more =
-      let split : drop rank mols ≡ get_or mols rank d ∷ drop (rank + 1) mols = rw (add-one, drop-cons mols rank d) refl in
-      ap (λ (left : List Mol). encounters_with draft seed k rank_a a rank left) split
-
-  -- the encounters among those that are left, those of the next one first
-  pub from_next : (rank : ℕ) (mols : List Mol) (d : Mol) → rank < length mols
-      → encounters_from draft seed k rank (drop rank mols)
-      ≡ (if is_free draft seed k (get_or mols rank d) then encounters_with draft seed k rank (get_or mols rank d) (rank + 1) (drop (rank + 1) mols) else [])
-      ++ encounters_from draft seed k (rank + 1) (drop (rank + 1) mols)
-  from_next rank mols d more =
-      let split : drop rank mols ≡ get_or mols rank d ∷ drop (rank + 1) mols = rw (add-one, drop-cons mols rank d) refl in
-      ap (λ (left : List Mol). encounters_from draft seed k rank left) split
-
-  -- what is said of a molecule that is free
-  pub free_there : (free : List Bool) (mols : List Mol) (rank : ℕ) (d : Mol) → free ≡ map (is_free draft seed k) mols → rank < length mols
-      → get_or free rank false ≡ is_free draft seed k (get_or mols rank d)
-  free_there free mols rank d is within =
-      ap (λ (free : List Bool). get_or free rank false) is ∙ get_or-map (is_free draft seed k) mols rank d false within
-
-  -- where none are left, all are there
-  pub none_left : (rank : ℕ) (mols : List Mol) (found : List Ranks) → length mols ≤ rank
-      → found ++ map ranks_of (encounters_from draft seed k rank (drop rank mols)) ≡ map ranks_of (encounters_from draft seed k 0 mols)
-      → found ≡ map ranks_of (encounters_of draft seed k mols)
-  unfolding encounters_of
-  none_left rank mols found past is =
-      let none : drop rank mols ≡ [] = drop_all rank mols past in
-      sym (append-nil found) ∙ sym (ap (λ (left : List Mol). found ++ map ranks_of (encounters_from draft seed k rank left)) none) ∙ is
-
   -- molecules that are beyond the reach of the first have no encounter
   pub none_of_two : (rank_a : ℕ) (a : Mol) (rank_b : ℕ) (b : Mol) (number : ℕ) (reactions : List Reaction)
       → IsBeyond (reach_of a.species reactions) a.place b.place
@@ -88,6 +33,19 @@ module _ (draft : Draft) (seed k : ℕ) where
       let never : may_react draft seed k reaction e ≡ false = not_by a.species b.species reaction a.place b.place _ parts.0 in
       ap (λ (here : Bool). if here then e ∷ rest else rest) never
       ∙ none_of_two rank_a a rank_b b (number + 1) reactions parts.1
+
+  -- nor beyond that of the second
+  pub none_of_second : (rank_a : ℕ) (a : Mol) (rank_b : ℕ) (b : Mol) (number : ℕ) (reactions : List Reaction)
+      → IsBeyond (reach_of b.species reactions) a.place b.place
+      → encounters_of_two draft seed k rank_a a rank_b b number reactions ≡ []
+  none_of_second rank_a a rank_b b number [] out = refl
+  none_of_second rank_a a rank_b b number (reaction ∷ reactions) out =
+      let parts = beyond_first b.species reaction reactions a.place b.place out in
+      let e : Encounter = record { a = a; b = b; rank_a = rank_a; rank_b = rank_b; reaction = number } in
+      let rest = encounters_of_two draft seed k rank_a a rank_b b (number + 1) reactions in
+      let never : may_react draft seed k reaction e ≡ false = not_by_second a.species b.species reaction a.place b.place _ parts.0 in
+      ap (λ (here : Bool). if here then e ∷ rest else rest) never
+      ∙ none_of_second rank_a a rank_b b (number + 1) reactions parts.1
 
   left_out : (taken : Bool) (here there : List Encounter) → here ≡ [] → there ≡ [] → (if taken then here else []) ++ there ≡ []
   left_out true here there none rest = (λ i. none i ++ rest i)
@@ -102,7 +60,7 @@ module _ (draft : Draft) (seed k : ℕ) where
       left_out (is_free draft seed k b) _ _ (none_of_two rank_a a rank b 0 draft.reactions out) (none_with rank_a a (rank + 1) mols none)
 
   -- nor does anybody where no species reaches others
-  none_from : (rank : ℕ) (mols : List Mol) → All (λ (mol : Mol). mol.species < length draft.species) mols → list_any is_some (reaches_of draft) ≡ false
+  none_from : (rank : ℕ) (mols : List Mol) → All (λ (mol : Mol). mol.species < length draft.species) mols → longest_of (reaches_of draft) ≡ None
       → encounters_from draft seed k rank mols ≡ []
   none_from rank [] are none = refl
   none_from rank (a ∷ mols) are none =
@@ -110,7 +68,7 @@ module _ (draft : Draft) (seed k : ℕ) where
       left_out (is_free draft seed k a) _ _ (none_with rank a (rank + 1) mols (no_reach draft a.species (All-head There a mols are) none))
       (none_from (rank + 1) mols (All-tail There a mols are) none)
 
-  pub no_encounters : (mols : List Mol) → All (λ (mol : Mol). mol.species < length draft.species) mols → list_any is_some (reaches_of draft) ≡ false
+  pub no_encounters : (mols : List Mol) → All (λ (mol : Mol). mol.species < length draft.species) mols → longest_of (reaches_of draft) ≡ None
       → encounters_of draft seed k mols ≡ []
   unfolding encounters_of
   no_encounters mols are none = none_from 0 mols are none

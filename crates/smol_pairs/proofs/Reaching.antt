@@ -1,10 +1,9 @@
 -- Molecules that are out of reach of each other don't react.
-use Rattle.std.proofs.Common.{◌≡◌, ℕ, ◌*◌, ◌<◌, ◌≤◌, Bool, true, false, ◌&&◌, ◌==◌, List, [], ◌∷◌, length, get_or, Option, None, Some, unsigned_abs, refl, ap, ◌∙◌, subst, arith}
-use Rattle.std.specs.Prelude.{◌||◌, if◌then◌else◌, is_some, max, nat_le, not}
+use Rattle.std.proofs.Common.{◌≡◌, ℕ, zero, suc, ◌*◌, ◌<◌, ◌≤◌, Bool, true, false, ◌&&◌, ◌==◌, List, [], ◌∷◌, length, get_or, Option, None, Some, unsigned_abs, refl, sym, ap, ◌∙◌, subst, arith}
+use Rattle.std.specs.Prelude.{◌||◌, if◌then◌else◌, max, nat_le, not}
 use Rattle.std.specs.List.{list_any}
 use Rattle.std.proofs.lemmas.Bool.{or_parts}
 use Rattle.std.proofs.lemmas.Bool.Decides.{nat_tests}
-use Rattle.std.proofs.lemmas.List.Folds.{list_any_at}
 use Rattle.std.proofs.lemmas.List.FromFn.{get_or-map-range_with_len, length-map-range_with_len}
 use Rattle.smol_num.specs.declared.quantities.Micro.{Micro}
 use Rattle.smol_geom.specs.declared.place.Place.{Place}
@@ -14,7 +13,7 @@ use Rattle.smol_types.specs.declared.reaction.Reaction.{Reaction}
 use Rattle.smol_types.specs.Reactions.{reacts_together}
 use Rattle.smol_meaning.specs.Encounters.{are_near}
 use Rattle.smol_pairs.specs.Near.{are_within_on}
-use Rattle.smol_pairs.specs.Reach.{in_ticks, is_out_of_reach, longer, reach_by, reach_of, reaches_of}
+use Rattle.smol_pairs.specs.Reach.{in_ticks, is_out_of_reach, longer, longest_of, reach_by, reach_of, reaches_of}
 use Rattle.smol_pairs.proofs.Distances.{too_far}
 
 pub longer_none : (reach : Option ℕ) → longer reach None ≡ reach
@@ -37,7 +36,7 @@ out_of_less : (less most x y z : ℕ) → less ≤ most → not (nat_le x most &
 out_of_less less most x y z within out = grind (arith, nat_tests)
 
 -- what is beyond the longer of two reaches is beyond each
-beyond_each : (one other : Option ℕ) (a b : Place) → IsBeyond (longer one other) a b → IsBeyond one a b × IsBeyond other a b
+pub beyond_each : (one other : Option ℕ) (a b : Place) → IsBeyond (longer one other) a b → IsBeyond one a b × IsBeyond other a b
 beyond_each None other a b out = (tt, out)
 beyond_each (Some one) None a b out = (out, tt)
 beyond_each (Some one) (Some other) a b out = (
@@ -90,13 +89,28 @@ not_by a_species b_species reaction a b rest out =
     cases true together without out = together_not_near together (are_near reaction.radius a b) (not_near reaction.radius a b out)
     cases false together without out = ap (λ (here : Bool). here && (are_near reaction.radius a b && rest)) (without refl)
 
+-- and so do places beyond the reach of the second species
+together_turned : (a b : ℕ) (reactants : List ℕ) → reacts_together a b reactants ≡ reacts_together b a reactants
+together_turned a b [] = refl
+together_turned a b (one ∷ []) = refl
+together_turned a b (one ∷ two ∷ []) = or_turned ((one == a) && (two == b)) ((one == b) && (two == a))
+  where
+    or_turned : (p q : Bool) → (p || q) ≡ (q || p)
+    or_turned true true = refl
+    or_turned true false = refl
+    or_turned false true = refl
+    or_turned false false = refl
+together_turned a b (one ∷ two ∷ three ∷ more) = refl
+
+pub not_by_second : (a_species b_species : ℕ) (reaction : Reaction) (a b : Place) (rest : Bool) → IsBeyond (reach_by b_species reaction) a b
+    → (reacts_together a_species b_species reaction.reactants && (are_near reaction.radius a b && rest)) ≡ false
+not_by_second a_species b_species reaction a b rest out =
+    ap (λ (together : Bool). together && (are_near reaction.radius a b && rest)) (together_turned a_species b_species reaction.reactants)
+    ∙ not_by b_species a_species reaction a b rest out
+
 pub beyond_first : (species : ℕ) (reaction : Reaction) (reactions : List Reaction) (a b : Place) → IsBeyond (reach_of species (reaction ∷ reactions)) a b
     → IsBeyond (reach_by species reaction) a b × IsBeyond (reach_of species reactions) a b
 beyond_first species reaction reactions a b out = beyond_each (reach_by species reaction) (reach_of species reactions) a b out
-
-no_more : (reach : Option ℕ) (some : Bool) → (is_some reach ≡ true → some ≡ true) → some ≡ false → reach ≡ None
-no_more None some has none = refl
-no_more (Some reach) some has none = let here = has refl in absurd (cc)
 
 -- the table has an entry for each species
 pub reach_count : (draft : Draft) → length (reaches_of draft) ≡ length draft.species
@@ -108,10 +122,18 @@ reach_at draft species d there =
     get_or-map-range_with_len (λ (species : ℕ). reach_of species draft.reactions) 0 (length draft.species) species species d there (omega arith)
 
 -- where no species reaches others, this one doesn't
-pub no_reach : (draft : Draft) (species : ℕ) → species < length draft.species → list_any is_some (reaches_of draft) ≡ false
+both_none : (one other : Option ℕ) → longer one other ≡ None → (one ≡ None) × (other ≡ None)
+both_none None other none = (refl, none)
+both_none (Some one) None none = absurd (cc)
+both_none (Some one) (Some other) none = absurd (cc)
+
+all_none : (reaches : List (Option ℕ)) (i : ℕ) → i < length reaches → longest_of reaches ≡ None → get_or reaches i None ≡ None
+all_none [] i inside none = absurd (omega arith)
+all_none (reach ∷ reaches) zero inside none = (both_none reach (longest_of reaches) none).0
+all_none (reach ∷ reaches) (suc i) inside none = all_none reaches i (omega arith) (both_none reach (longest_of reaches) none).1
+
+pub no_reach : (draft : Draft) (species : ℕ) → species < length draft.species → longest_of (reaches_of draft) ≡ None
     → reach_of species draft.reactions ≡ None
 no_reach draft species there none =
-    let reaches = reaches_of draft in
-    let inside : species < length reaches = omega (arith, reach_count draft, there) in
-    no_more (reach_of species draft.reactions) (list_any is_some reaches)
-    (λ some. list_any_at is_some reaches species None inside (ap is_some (reach_at draft species None there) ∙ some)) none
+    let inside : species < length (reaches_of draft) = omega (arith, reach_count draft, there) in
+    sym (reach_at draft species None there) ∙ all_none (reaches_of draft) species inside none

@@ -1,5 +1,10 @@
 pub mod Encounters
+pub mod Keys
+pub mod Met
 pub mod Moved
 pub mod Near
 pub mod Ranked
 pub mod Reach
+pub mod Rising
+pub mod Searching
+pub mod Seekers

@@ -34,3 +34,8 @@ reaches_of draft = map (λ (species : ℕ). reach_of species draft.reactions) (r
 -- whether two places are farther apart on some axis than a molecule reaches
 abbrev pub is_out_of_reach : ℕ → Place → Place → Bool
 is_out_of_reach reach a b = not (are_within_on reach a b 0 && (are_within_on reach a b 1 && are_within_on reach a b 2))
+
+-- the longest of these reaches
+abbrev pub longest_of : List (Option ℕ) → Option ℕ
+longest_of [] = None
+longest_of (reach ∷ reaches) = longer reach (longest_of reaches)

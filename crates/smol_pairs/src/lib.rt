@@ -1,18 +1,26 @@
 //! Which pairs of molecules may react in a step.
 #![tactic(auto)]
 
+#[cfg(test)]
 mod all_pairs;
 mod encounter;
+mod finding;
+mod grid;
+mod keys;
+mod looking;
 mod meeting;
 mod near;
 mod pairing;
 mod ranked;
 mod reach;
 mod reaches;
+mod rows;
+mod search;
+mod seeker;
 #[cfg(test)]
 mod tests;
 
-pub use all_pairs::encounters;
 pub use encounter::Encounter;
+pub use finding::encounters;
 pub use pairing::{candidates, pairs_of};
 pub use reaches::Reaches;

@@ -7,8 +7,8 @@ ghost use Rattle.smol_meaning.specs.Events.{is_free};
 ghost use Rattle.smol_pairs.specs.Encounters.{AreRanksIn, pair_at, ranks_of};
 ghost use Rattle.smol_pairs.specs.Moved.{AreMoved, IsAmong};
 
-use crate::all_pairs::encounters;
 use crate::encounter::Encounter;
+use crate::finding::encounters;
 use crate::reaches::Reaches;
 use smol_plan::Pair;
 use smol_sheets::Panels;

@@ -52,8 +52,8 @@ fn in_ticks(radius: Option<Micro>) -> Option<u64>
     }
 }
 
-// The longer of two reaches.
-fn longer(one: Option<u64>, other: Option<u64>) -> Option<u64>
+/// The longer of two reaches.
+pub fn longer(one: Option<u64>, other: Option<u64>) -> Option<u64>
     ensures { result ≡ longer one other }
 {
     match (one, other) {

@@ -3,7 +3,7 @@ ghost use Rattle.std.specs.Prelude.{◌≡◌, IfOk};
 ghost use Rattle.smol_types.specs.Sound.{IsSound};
 ghost use Rattle.smol_pairs.specs.Reach.{reaches_of};
 
-use crate::reach::reach_of;
+use crate::reach::{longer, reach_of};
 use smol_types::Config;
 use std::alloc::{AllocError, Global};
 use std::marker::Model;
@@ -31,10 +31,9 @@ impl<'a> Model for Reaches<'a> {
 }
 
 impl<'a> Reaches<'a> {
-    ghost use Rattle.std.specs.Prelude.{◌≡◌, ◌<◌, IfOk, is_some, length};
-    ghost use Rattle.std.specs.List.{list_any};
+    ghost use Rattle.std.specs.Prelude.{◌≡◌, ◌<◌, IfOk, length};
     ghost use Rattle.smol_types.specs.Sound.{IsSound};
-    ghost use Rattle.smol_pairs.specs.Reach.{reach_of, reaches_of};
+    ghost use Rattle.smol_pairs.specs.Reach.{longest_of, reach_of, reaches_of};
 
     /// How far the species of a configuration reach.
     pub fn of(alloc: Global, config: &'a Config) -> Result<Reaches<'a>, AllocError>
@@ -54,11 +53,16 @@ impl<'a> Reaches<'a> {
         self.by_species[species as usize]
     }
 
-    // Whether molecules of some species reach others at all.
-    pub fn meet_at_all(&self) -> bool
-        ensures { result ≡ list_any is_some (reaches_of self.now) }
+    /// The longest reach of any species. Without one nobody meets anybody.
+    pub fn longest(&self) -> Option<u64>
+        ensures value { result ≡ longest_of (reaches_of self.now) }
+        ensures sound { IsSound self.now }
     {
-        self.by_species.iter().any(|reach| reach.is_some())
+        let mut longest = None;
+        for reach in &self.by_species {
+            longest = longer(longest, *reach);
+        }
+        longest
     }
 }
 

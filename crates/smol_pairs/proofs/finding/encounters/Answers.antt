@@ -1,0 +1,47 @@
+use Rattle.std.proofs.Common.{ℕ, ◌<◌, List, length, map, All, sym, ap, subst, ◌∙◌, arith}
+use Rattle.std.specs.Prelude.{Contains}
+use Rattle.std.proofs.lemmas.List.Elements.{All-weaker, All-contains}
+use Rattle.smol_types.specs.declared.draft.Draft.{Draft}
+use Rattle.smol_types.specs.Sound.{IsSound}
+use Rattle.smol_meaning.specs.Encounters.{Encounter, encounters_of}
+use Rattle.smol_pairs.specs.declared.seeker.Seeker.{Seeker}
+use Rattle.smol_pairs.specs.Encounters.{AreRanksIn, ranks_of}
+use Rattle.smol_pairs.specs.Met.{Has, two_at}
+use Rattle.smol_pairs.specs.Reach.{longest_of, reaches_of}
+use Rattle.smol_pairs.specs.Seekers.{AreCovered, nobody, rank_of}
+use Rattle.smol_pairs.proofs.AllMet.{all_have}
+use Rattle.smol_pairs.proofs.KeysFound.{all_found}
+use Rattle.smol_pairs.proofs.Meetings.{all_ranks, no_encounters}
+use Rattle.smol_pairs.proofs.finding.encounters.Goals as goal
+
+pub returns-in_default-clause-encounters : goal.returns-in_default-clause-encounters
+returns-in_default-clause-encounters g c =
+    let draft = c.args.panels.now in
+    let none = ap (λ (draft : Draft). longest_of (reaches_of draft)) (sym c.requires.reaches) ∙ sym c.longest.ensures.value ∙ c.in_default.is in
+    c.new.ensures.items ∙ sym (ap (map ranks_of) (no_encounters draft c.args.seed c.args.k c.args.mols.now c.requires.moved.species none))
+
+pub returns-clause-encounters : goal.returns-clause-encounters
+returns-clause-encounters g c =
+    let draft = c.args.panels.now in
+    let seed = c.args.seed in
+    let k = c.args.k in
+    let mols = c.args.mols.now in
+    let seekers = c.in_ok-seekers.seekers.items in
+    let keys = c.in_ok-keys.keys in
+    let found = c.in_ok-found.found.items in
+    let all = map ranks_of (encounters_of draft seed k mols) in
+    let same = c.in_ok-found.ensures.same in
+    let sound : IsSound draft = subst IsSound c.requires.reaches c.longest.ensures.sound in
+    let covered = subst (λ (draft : Draft). AreCovered draft seed k mols (length mols) seekers) c.requires.reaches c.in_ok-seekers.ensures.covered in
+    let has = subst (λ (xs : List Seeker). (i j : ℕ) → i < j → Contains (map rank_of xs) i → Contains (map rank_of xs) j → Has draft seed k mols keys i j)
+    c.deref.ensures.value c.in_ok-keys.ensures.has in
+    all_found draft seed k nobody mols found (omega (arith, c.requires.moved.count)) (omega (arith, sound.reaction_count)) c.in_ok-found.ensures.rising
+    (All-weaker (Contains keys) (Contains all) (λ e is. All-contains (Contains all) keys e c.in_ok-keys.ensures.sound is) found same.old)
+    (λ i j less within free_i free_j.
+    All-weaker (λ (e : Encounter). Contains keys (ranks_of e)) (λ (e : Encounter). Contains found (ranks_of e))
+    (λ e is. All-contains (Contains found) keys (ranks_of e) same.kept is) (two_at draft seed k mols i j)
+    (all_have draft seed k mols seekers keys covered has i j less within free_i free_j))
+
+pub returns-clause-ranks : goal.returns-clause-ranks
+returns-clause-ranks g c =
+    subst (All (AreRanksIn c.args.mols.now)) (sym (returns-clause-encounters g c)) (all_ranks c.args.panels.now c.args.seed c.args.k c.args.mols.now)
