@@ -48,7 +48,7 @@ use Rattle.smol_config.specs.Species.{species_of, further_words, species_in, spe
 use Rattle.smol_config.specs.Motion.{difc_in, difstep_in}
 use Rattle.smol_config.specs.Times.{nanos_in, time_start_of, time_stop_of, time_step_of, given_time_in, time_step_in}
 use Rattle.smol_config.specs.MaxMol.{max_mol_of, max_mol_in}
-use Rattle.smol_config.specs.RandomSeed.{random_seed_in}
+use Rattle.smol_config.specs.RandomSeed.{random_seed_in, random_seed_of}
 use Rattle.smol_config.specs.Boundaries.{line_letter, bounds_at, bounds_in, boundaries_in}
 use Rattle.smol_config.specs.Mol.{given_in, given_place_in, mol_in}
 use Rattle.smol_config.specs.Reactions.{reactions_said}
@@ -67,7 +67,7 @@ dim_keeps before line dims is h =
     let counted = passed (word_count 2 line) [] value dims new.1 in
     axes_kept before dims (not_yet (dims_of before) new.0) (count_in-low 1 3 (word_at line 1) dims counted.1) (count_in-high 1 3 (word_at line 1) dims counted.1) h
 
-species_keeps : (before : List Said) (line : Stated) (more : List (List ℕ)) → species_in before line ≡ Ok more → IsSoFar before → IsSoFar (names more ∷ before)
+species_keeps : (before : List Said) (line : Stated) (more : List (List ℕ)) → species_in (species_of before) line ≡ Ok more → IsSoFar before → IsSoFar (names more ∷ before)
 unfolding species_in
 species_keeps before line more is h =
     let enough = unless (nat_le 2 (length (words_of line))) kind.WrongWordCount in
@@ -94,7 +94,7 @@ time_small given line time is =
     let high = range.1 in
     omega (arith, ints)
 
-time_step_keeps : (before : List Said) (line : Stated) (time : ℤ) → time_step_in before line ≡ Ok time → IsSoFar before → IsSoFar (steps time ∷ before)
+time_step_keeps : (before : List Said) (line : Stated) (time : ℤ) → time_step_in (time_step_of before) line ≡ Ok time → IsSoFar before → IsSoFar (steps time ∷ before)
 unfolding time_step_in
 time_step_keeps before line time is h =
     let next = λ (time : ℤ). passing (unless (int_lt (pos 0) time) kind.OutOfRange ∷ []) (Ok time) in
@@ -107,7 +107,7 @@ time_step_keeps before line time is h =
     let small = time_small (time_step_of before) line found.0 found.1 in
     subst (λ (t : ℤ). IsSoFar (steps t ∷ before)) same (steps_kept before found.0 small above h)
 
-max_mol_keeps : (before : List Said) (line : Stated) (count : ℕ) → max_mol_in before line ≡ Ok count → IsSoFar before → IsSoFar (limits count ∷ before)
+max_mol_keeps : (before : List Said) (line : Stated) (count : ℕ) → max_mol_in (max_mol_of before) line ≡ Ok count → IsSoFar before → IsSoFar (limits count ∷ before)
 unfolding max_mol_in
 max_mol_keeps before line count is h =
     let value = count_in 1 1000000 (word_at line 1) in
@@ -294,21 +294,21 @@ statement_keeps statement.Unknown before line said place is h = absurd cc
 statement_keeps statement.Dim before line said place is h =
     let by = said_by axes (dim_in (axes_of before) line) said is in subst (λ (s : Said). IsSoFar (s ∷ before)) by.2 (dim_keeps before line by.0 by.1 h)
 statement_keeps statement.Species before line said place is h =
-    let by = said_by names (species_in before line) said is in subst (λ (s : Said). IsSoFar (s ∷ before)) by.2 (species_keeps before line by.0 by.1 h)
+    let by = said_by names (species_in (species_of before) line) said is in subst (λ (s : Said). IsSoFar (s ∷ before)) by.2 (species_keeps before line by.0 by.1 h)
 statement_keeps statement.Difc before line said place is h =
-    let by = said_by (λ given. moves given.0 given.1) (difc_in before line) said is in subst (λ (s : Said). IsSoFar (s ∷ before)) by.2 (moves_kept before by.0.0 by.0.1 h)
+    let by = said_by (λ given. moves given.0 given.1) (difc_in (species_of before) line) said is in subst (λ (s : Said). IsSoFar (s ∷ before)) by.2 (moves_kept before by.0.0 by.0.1 h)
 statement_keeps statement.Difstep before line said place is h =
-    let by = said_by (λ given. moves given.0 given.1) (difstep_in before line) said is in subst (λ (s : Said). IsSoFar (s ∷ before)) by.2 (moves_kept before by.0.0 by.0.1 h)
+    let by = said_by (λ given. moves given.0 given.1) (difstep_in (species_of before) line) said is in subst (λ (s : Said). IsSoFar (s ∷ before)) by.2 (moves_kept before by.0.0 by.0.1 h)
 statement_keeps statement.TimeStart before line said place is h =
     let by = said_by starts (given_time_in (time_start_of before) line) said is in subst (λ (s : Said). IsSoFar (s ∷ before)) by.2 (starts_kept before by.0 (time_small (time_start_of before) line by.0 by.1) h)
 statement_keeps statement.TimeStop before line said place is h =
     let by = said_by stops (given_time_in (time_stop_of before) line) said is in subst (λ (s : Said). IsSoFar (s ∷ before)) by.2 (stops_kept before by.0 (time_small (time_stop_of before) line by.0 by.1) h)
 statement_keeps statement.TimeStep before line said place is h =
-    let by = said_by steps (time_step_in before line) said is in subst (λ (s : Said). IsSoFar (s ∷ before)) by.2 (time_step_keeps before line by.0 by.1 h)
+    let by = said_by steps (time_step_in (time_step_of before) line) said is in subst (λ (s : Said). IsSoFar (s ∷ before)) by.2 (time_step_keeps before line by.0 by.1 h)
 statement_keeps statement.MaxMol before line said place is h =
-    let by = said_by limits (max_mol_in before line) said is in subst (λ (s : Said). IsSoFar (s ∷ before)) by.2 (max_mol_keeps before line by.0 by.1 h)
+    let by = said_by limits (max_mol_in (max_mol_of before) line) said is in subst (λ (s : Said). IsSoFar (s ∷ before)) by.2 (max_mol_keeps before line by.0 by.1 h)
 statement_keeps statement.RandomSeed before line said place is h =
-    let by = said_by seeds (random_seed_in before line) said is in subst (λ (s : Said). IsSoFar (s ∷ before)) by.2 (seeds_kept before by.0 h)
+    let by = said_by seeds (random_seed_in (random_seed_of before) line) said is in subst (λ (s : Said). IsSoFar (s ∷ before)) by.2 (seeds_kept before by.0 h)
 statement_keeps statement.Boundaries before line said place is h =
     let by = said_by (λ given. walls given.0 given.1) (boundaries_in (axes_of before) line) said is in subst (λ (s : Said). IsSoFar (s ∷ before)) by.2 (boundaries_keep before line by.0 by.1 h)
 statement_keeps statement.Mol before line said place is h =

@@ -40,7 +40,7 @@ use Rattle.smol_config.specs.Reactions.{reactions_said}
 use Rattle.smol_config.specs.Blocks.{blocks_said, compartment_count}
 use Rattle.smol_config.specs.Commands.{commands_of, outputs_of}
 use Rattle.smol_config.specs.Content.{content_of, species_from, started}
-use Rattle.smol_config.specs.Whole.{bounded, has_chances, has_difstep, has_few_steps, has_room, needed_in, behind_blocks, closed_in, whole_in}
+use Rattle.smol_config.specs.Whole.{bounded, has_chances, has_difstep, has_few_steps, has_room, needed_from, needed_in, behind_blocks, closed_in, whole_in}
 use Rattle.smol_config.specs.Reader.{config_from, config_of, line_in, lines_in, read_from}
 use Rattle.smol_config.specs.SoFar.{IsSoFar}
 use Rattle.smol_config.specs.Tables.{AreSmall}
@@ -55,7 +55,7 @@ in_line line (Err kind) found is = absurd cc
 pub needed_is : (before : List Said) (needed : Needed) → needed_in before ≡ Ok needed
     → (dims_of before ≡ Some needed.dims) × (is_walled needed.dims 0 (bounds_of 0 before) ≡ true) × (is_walled needed.dims 1 (bounds_of 1 before) ≡ true) × (is_walled needed.dims 2 (bounds_of 2 before) ≡ true)
     × (time_stop_of before ≡ Some needed.stop) × (time_step_of before ≡ Some needed.step)
-unfolding needed_in
+unfolding needed_from
 needed_is before needed is =
     let last = λ (dims : ℕ) (stop step : ℤ). let all : Result Needed Kind = Ok (record { dims = dims; stop = stop; step = step }) in all in
     let timed = λ (dims : ℕ) (stop : ℤ). with_value (there (time_step_of before) (kind.Missing need.TimeStep)) (last dims stop) in

@@ -14,6 +14,7 @@ pub mod CompartmentMol
 pub mod Commands
 pub mod Content
 pub mod Whole
+pub mod Looked
 pub mod Reader
 pub mod SoFar
 pub mod Tables

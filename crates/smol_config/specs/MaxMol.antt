@@ -21,5 +21,6 @@ max_mol_of before = nearest said_limit before
 abbrev pub limit_of : Option ℕ → ℕ
 limit_of given = unwrap_or given 100000
 
-unfoldable pub max_mol_in : List Said → Stated → Result ℕ Kind
-max_mol_in before line = passing (once (max_mol_of before) ∷ word_count 2 line ∷ []) (count_in 1 most_molecules (word_at line 1))
+-- the limit of a line, by what a line before gives
+unfoldable pub max_mol_in : Option ℕ → Stated → Result ℕ Kind
+max_mol_in given line = passing (once given ∷ word_count 2 line ∷ []) (count_in 1 most_molecules (word_at line 1))

@@ -22,10 +22,11 @@ said_seed other = None
 abbrev pub random_seed_of : List Said → Option ℕ
 random_seed_of before = nearest said_seed before
 
-unfoldable pub random_seed_in : List Said → Stated → Result ℕ Kind
-random_seed_in before line =
+-- the seed of a line, by what a line before gives
+unfoldable pub random_seed_in : Option ℕ → Stated → Result ℕ Kind
+random_seed_in given line =
     passing
-    (once (random_seed_of before)
+    (once given
     ∷ word_count 2 line
     ∷ unless (not (bytes_eq (word_at line 1) (codes "time"))) NotInProfile
     ∷ [])

@@ -41,6 +41,6 @@ unfoldable pub given_time_in : Option ℤ → Stated → Result ℤ Kind
 given_time_in given line = passing (once given ∷ word_count 2 line ∷ []) (nanos_in (word_at line 1))
 
 -- the same of a step, which takes some time
-unfoldable pub time_step_in : List Said → Stated → Result ℤ Kind
-time_step_in before line =
-    with_value (given_time_in (time_step_of before) line) (λ time. passing (unless (int_lt (pos 0) time) OutOfRange ∷ []) (Ok time))
+unfoldable pub time_step_in : Option ℤ → Stated → Result ℤ Kind
+time_step_in given line =
+    with_value (given_time_in given line) (λ time. passing (unless (int_lt (pos 0) time) OutOfRange ∷ []) (Ok time))

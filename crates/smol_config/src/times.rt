@@ -1,8 +1,7 @@
 //! `time_start T`, `time_stop T` and `time_step T`: times in nanos.
-ghost use Rattle.std.specs.Prelude.{◌≡◌, ◌≤◌, List, IfOk, unsigned_abs};
+ghost use Rattle.std.specs.Prelude.{◌≡◌, ◌≤◌, IfOk, unsigned_abs};
 ghost use Rattle.smol_types.specs.Limits.{latest};
-ghost use Rattle.smol_config.specs.Said.{Said};
-ghost use Rattle.smol_config.specs.Times.{nanos_in, time_step_of, given_time_in, time_step_in};
+ghost use Rattle.smol_config.specs.Times.{nanos_in, given_time_in, time_step_in};
 
 use smol_line::{decimal_in, once, unless, word_at, word_count};
 use smol_text::StatedLine;
@@ -33,7 +32,7 @@ pub fn judge(given: Option<i64>, line: &StatedLine<'_>) -> Result<i64, Kind>
 /// The time of a step that a line gives, where `given` is what a line before gives.
 #[tactic(auto, unfolding(crate::specs::Times::time_step_in))]
 pub fn judge_step(given: Option<i64>, line: &StatedLine<'_>) -> Result<i64, Kind>
-    ensures rule { (before : List Said) → given ≡ time_step_of before → result ≡ time_step_in before line.now }
+    ensures rule { result ≡ time_step_in given line.now }
     ensures size { IfOk result (λ time. unsigned_abs time ≤ latest) }
 {
     let time = judge(given, line)?;

@@ -15,7 +15,7 @@ ghost use Rattle.smol_config.specs.Said.{Said};
 ghost use Rattle.smol_config.specs.Motion.{difstep_of};
 ghost use Rattle.smol_config.specs.Content.{content_of, started};
 ghost use Rattle.smol_config.specs.Tables.{AreSmall, Holds, IsReached, drafted, species_made};
-ghost use Rattle.smol_config.specs.Whole.{bounded, has_chances, has_difstep, has_few_steps, needed_in, closed_in};
+ghost use Rattle.smol_config.specs.Whole.{bounded, has_chances, has_difstep, has_few_steps, needed_from, closed_in};
 
 use crate::motion::{MOST_DIFSTEP, Motion, difstep_of};
 use crate::species_table::SpeciesTable;
@@ -43,23 +43,23 @@ pub struct Needed {
 }
 
 // What the whole file gives of what it can't do without.
-#[tactic(auto, unfolding(crate::specs::Whole::needed_in))]
-fn needed_in(tables: &Tables) -> Result<Needed, Kind>
-    ensures { (before : List Said) → Holds tables.now before → result ≡ needed_in before }
+#[tactic(auto, unfolding(crate::specs::Whole::needed_from))]
+fn needed_from(axes: &Axes, stop: Option<i64>, step: Option<i64>) -> Result<Needed, Kind>
+    ensures { result ≡ needed_from axes.now stop step }
 {
-    let Some(dims) = tables.axes.dims else {
+    let Some(dims) = axes.dims else {
         return Err(Kind::Missing(Need::Dim));
     };
-    let x = is_walled(dims, 0, &tables.axes.x);
+    let x = is_walled(dims, 0, &axes.x);
     unless(x, Kind::Missing(Need::Boundaries(0)))?;
-    let y = is_walled(dims, 1, &tables.axes.y);
+    let y = is_walled(dims, 1, &axes.y);
     unless(y, Kind::Missing(Need::Boundaries(1)))?;
-    let z = is_walled(dims, 2, &tables.axes.z);
+    let z = is_walled(dims, 2, &axes.z);
     unless(z, Kind::Missing(Need::Boundaries(2)))?;
-    let Some(stop) = tables.stop else {
+    let Some(stop) = stop else {
         return Err(Kind::Missing(Need::TimeStop));
     };
-    let Some(step) = tables.step else {
+    let Some(step) = step else {
         return Err(Kind::Missing(Need::TimeStep));
     };
     Ok(Needed { dims, stop, step })
@@ -300,7 +300,7 @@ pub fn finish(alloc: Global, tables: Tables) -> Result<Config, Refusal>
     ensures refused { (kind : TheKind) (before : List Said) → result ≡ Err (At kind) → Holds tables before
         → closed_in before ≡ Err (fault_at 0 kind) }
 {
-    let needed = needed_in(&tables)?;
+    let needed = needed_from(&tables.axes, tables.stop, tables.step)?;
     let draft = draft_of(alloc, needed, tables)?;
     let draft = bounded(draft)?;
     Ok(Config::of(draft))

@@ -1,18 +1,21 @@
-use Rattle.std.proofs.Common.{sym, ap}
+use Rattle.std.proofs.Common.{Some, refl, sym, ap}
 use Rattle.std.proofs.lemmas.Result.{err_from_is_err_and}
-use Rattle.smol_line.specs.LookingBack.{say}
+use Rattle.smol_blocks.specs.declared.statement.Statement.TheVariants as statement
+use Rattle.smol_config.specs.Looked.{Looked}
+use Rattle.smol_config.specs.MaxMol.{max_mol_in}
 use Rattle.smol_config.specs.Said.{limits}
 use Rattle.smol_config.specs.Reader.{statement_in}
-use Rattle.smol_config.proofs.Held.{limit_held}
+use Rattle.smol_config.proofs.Held.{value_refused, value_taken}
 use Rattle.smol_config.proofs.tables.Tables.read_max_mol.Goals as goal
 
 pub returns-in_err-judge : goal.returns-in_err-judge
 unfolding statement_in
 returns-in_err-judge c =
     let p = err_from_is_err_and c.from_residual.result c.from_residual.ensures.1 in
-    rw (p.1, p.2) (λ before holds. ap (say limits) (sym (c.in_err-judge.ensures before holds.max_mol)))
+    rw (p.1, p.2) (value_refused statement.MaxMol c.args.line.now c.args.self.now c.args.self.now limits (λ known compartments. max_mol_in known.max_mol c.args.line.now) (λ before. refl) _ (sym c.in_err-judge.ensures))
 
 pub returns : goal.returns
 unfolding statement_in
-returns c before holds =
-    (limits c.in_ok-judge.field-0, ap (say limits) (sym (c.in_ok-judge.ensures before holds.max_mol)), limit_held c.args.self.now before c.in_ok-judge.field-0 holds)
+returns c =
+    value_taken statement.MaxMol c.args.line.now c.args.self.now (record c.args.self.now { max_mol = Some c.in_ok-judge.field-0 }) limits (λ known compartments. max_mol_in known.max_mol c.args.line.now) (λ before. refl) c.in_ok-judge.field-0 (sym c.in_ok-judge.ensures)
+    (λ before h. record { plain = ap (λ (old : Looked). let new : Looked = record old { max_mol = Some c.in_ok-judge.field-0 } in new) h.plain; groups = h.groups })
