@@ -1,5 +1,5 @@
 -- The tables with what one line more says.
-use Rattle.std.proofs.Common.{◌≡◌, ◌<◌, ◌≢◌, ◌++◌, ◌∷◌, [], ◌&&◌, true, false, ℕ, zero, suc, List, Result, Ok, Err, OnOk, nat_le, nat_lt, slice_index_or, arith, refl, sym, ap, ◌∙◌, if◌then◌else◌}
+use Rattle.std.proofs.Common.{◌≡◌, ◌<◌, ◌≢◌, ◌++◌, ◌∷◌, [], ◌&&◌, true, false, ℕ, zero, suc, List, Option, Some, subst, Result, Ok, Err, OnOk, nat_le, nat_lt, slice_index_or, arith, refl, sym, ap, ◌∙◌, if◌then◌else◌}
 use Rattle.std.specs.Result.{IsOkAnd}
 use Rattle.smol_text.specs.Reading.{Stated}
 use Rattle.smol_types.specs.declared.command.Command.{Command}
@@ -35,7 +35,7 @@ use Rattle.smol_config.specs.Axes.{axes_of}
 use Rattle.smol_config.specs.Reactions.{reactions_said}
 use Rattle.smol_config.specs.Blocks.{blocks_said, stands_outside}
 use Rattle.smol_config.specs.Looked.{Looked, looked_up}
-use Rattle.smol_config.specs.Tables.{Holds, Reads, seen, with_bounds}
+use Rattle.smol_config.specs.Tables.{Holds, Keeps, Reads, seen, with_bounds}
 
 -- the walls of one axis more
 axes_with : (before : List Said) (axis : ℕ) (new : Bounds) → axis < 3 → with_bounds axis new (axes_of before) ≡ axes_of (walls axis new ∷ before)
@@ -49,7 +49,7 @@ pub passed_over_held : (tables : Tables) (before : List Said) → Holds tables b
 passed_over_held tables before h = record { plain = h.plain; groups = h.groups }
 
 -- how the reading of a line ends that says one value, where its rule asks for plain matters and for the names of compartments alone
-module _ {V : Type 0} (one : Statement) (line : Stated) (old new : Tables) (said : V → Said) (rule : Looked → List (List ℕ) → Result V Kind)
+module _ {T : Type 0} (one : Statement) (line : Stated) (old new : Tables) (said : T → Said) (rule : Looked → List (List ℕ) → Result T Kind)
     (is : (before : List Said) → statement_in one before line ≡ say said (rule (looked_up before) (compartment_names (blocks_said before)))) where
   by_tables : (before : List Said) → Holds old before → statement_in one before line ≡ say said (rule (seen old) old.blocks.compartment_names)
   by_tables before h = is before ∙ (λ i. say said (rule (sym h.plain i) (sym h.blocks.compartment_names i)))
@@ -57,15 +57,25 @@ module _ {V : Type 0} (one : Statement) (line : Stated) (old new : Tables) (said
   pub value_refused : (kind : Kind) → rule (seen old) old.blocks.compartment_names ≡ Err kind → (before : List Said) → Holds old before → statement_in one before line ≡ Err kind
   value_refused kind fails before h = by_tables before h ∙ ap (say said) fails
 
-  pub value_taken : (value : V) → rule (seen old) old.blocks.compartment_names ≡ Ok value → ((before : List Said) → Holds old before → Holds new (said value ∷ before)) → (before : List Said) → Holds old before → (more : Said) × (statement_in one before line ≡ Ok more) × Holds new (more ∷ before)
+  pub value_taken : (value : T) → rule (seen old) old.blocks.compartment_names ≡ Ok value → ((before : List Said) → Holds old before → Holds new (said value ∷ before)) → (before : List Said) → Holds old before → (more : Said) × (statement_in one before line ≡ Ok more) × Holds new (more ∷ before)
   value_taken value fine more before h = (said value, by_tables before h ∙ ap (say said) fine, more before h)
 
   -- the same by the result of what read the line
-  pub value_read : {T : Type 0} (result : Result T Refusal) → OnOk result ((value : V) × (rule (seen old) old.blocks.compartment_names ≡ Ok value) × ((before : List Said) → Holds old before → Holds new (said value ∷ before)))
+  pub value_read : {U : Type 0} (result : Result U Refusal) → OnOk result ((value : T) × (rule (seen old) old.blocks.compartment_names ≡ Ok value) × ((before : List Said) → Holds old before → Holds new (said value ∷ before)))
       → ((kind : Kind) → result ≡ Err (At kind) → rule (seen old) old.blocks.compartment_names ≡ Err kind) → Reads (statement_in one) line old new result
   value_read (Ok done) accepted refused = value_taken accepted.0 accepted.1 accepted.2
   value_read (Err (At kind)) accepted refused = value_refused kind (refused kind refl)
   value_read (Err OutOfMemory) accepted refused = tt
+
+-- the same where the value stands once, and this is what the tables are with it
+pub once_read : {T U : Type 0} (one : Statement) (line : Stated) (tables : Tables) (put : Option T → Tables) (said : T → Said) (rule : Looked → Result T Kind) (given : Result T Kind) (old new : Option T) (result : Result U Refusal)
+    → ((before : List Said) → statement_in one before line ≡ say said (rule (looked_up before))) → given ≡ rule (seen tables) → Keeps given old new result
+    → ((value : T) (before : List Said) → Holds tables before → Holds (put (Some value)) (said value ∷ before)) → Reads (statement_in one) line tables (put new) result
+once_read {T = T} one line tables put said rule (Ok value) old new (Ok done) is judged keeps more =
+    value_taken one line tables (put new) said (λ known compartments. rule known) is value (sym judged) (λ before h. subst (λ (kept : Option T). Holds (put kept) (said value ∷ before)) (sym keeps.0) (more value before h))
+once_read one line tables put said rule (Ok value) old new (Err refusal) is judged keeps more = let none = keeps.1 in absurd cc
+once_read one line tables put said rule (Err kind) old new result is judged keeps more =
+    rw keeps.1 (value_refused one line tables (put new) said (λ known compartments. rule known) is kind (sym judged))
 
 pub walls_held : (tables : Tables) (before : List Said) (axis : ℕ) (new : Bounds) (all : Axes) → axis < 3 → all ≡ with_bounds axis new tables.axes → Holds tables before → Holds (record tables { axes = all }) (walls axis new ∷ before)
 walls_held tables before axis new all within added h =

@@ -104,9 +104,9 @@ pub stops_kept : (before : List Said) (time : ℤ) → unsigned_abs time ≤ 100
 stops_kept before time small h the_stop = small
 stops_kept before time small h other = h other
 
-pub steps_kept : (before : List Said) (time : ℤ) → unsigned_abs time ≤ 1000000000000000000 → pos 0 <ℤ time → IsSoFar before → IsSoFar (steps time ∷ before)
-steps_kept before time small above h the_step = (small, above)
-steps_kept before time small above h other = h other
+pub steps_kept : (before : List Said) (time : ℤ) → (unsigned_abs time ≤ 1000000000000000000) × (pos 0 <ℤ time) → IsSoFar before → IsSoFar (steps time ∷ before)
+steps_kept before time fits h the_step = fits
+steps_kept before time fits h other = h other
 
 pub limits_kept : (before : List Said) (count : ℕ) → 1 ≤ count → count ≤ 1000000 → IsSoFar before → IsSoFar (limits count ∷ before)
 limits_kept before count least most h the_limit = (least, most)

@@ -27,7 +27,7 @@ use Rattle.smol_line.specs.Numbers.{count_in}
 use Rattle.smol_line.specs.SpeciesWord.{number_in, species_word_in}
 use Rattle.smol_line.specs.Words.{word_at}
 use Rattle.smol_line.proofs.Between.{settled_by, unwalled, lower_wall, upper_wall, coordinate_lies}
-use Rattle.smol_line.proofs.Passing.{passed, valued, holds, not_yet, is_there, said_by, three}
+use Rattle.smol_line.proofs.Passing.{passed, valued, held, holds, not_yet, is_there, said_by, three}
 use Rattle.smol_line.proofs.Ranges.{count_in-low, count_in-high, decimal_in-within, axis_in-within, number_in-within, species_word_in-within}
 use Rattle.smol_blocks.specs.declared.block_statement.BlockStatement.{BlockStatement}
 use Rattle.smol_blocks.specs.Blocks.{BlockSaid, block_line_in, block_of, compartment_names, compartments_of, is_outside}
@@ -42,9 +42,10 @@ use Rattle.smol_blocks.specs.declared.statement.Statement.TheVariants as stateme
 use Rattle.smol_config.specs.Said.{Said, passed_over, axes, names, moves, starts, stops, steps, limits, seeds, walls, places, of_reactions, of_blocks, writes, performs}
 use Rattle.smol_blocks.specs.Statement.{may_stand, statement_of}
 use Rattle.smol_config.specs.Axes.{axes_of, dims_of}
+use Rattle.smol_config.specs.Once.{stands_once}
 use Rattle.smol_config.specs.Dim.{dim_in}
 use Rattle.smol_config.specs.Species.{species_of, further_words, species_in, species_fault}
-use Rattle.smol_config.specs.Times.{nanos_in, time_start_of, time_stop_of, time_step_of, given_time_in, time_step_in}
+use Rattle.smol_config.specs.Times.{nanos_in, step_in, time_start_of, time_stop_of, time_step_of, given_time_in, time_step_in}
 use Rattle.smol_config.specs.MaxMol.{max_mol_of, max_mol_in}
 use Rattle.smol_config.specs.Boundaries.{line_letter, bounds_at, bounds_in, boundaries_in}
 use Rattle.smol_config.specs.Mol.{given_in, given_place_in, mol_in}
@@ -56,13 +57,18 @@ use Rattle.smol_config.specs.Reader.{statement_in, line_in}
 use Rattle.smol_config.specs.SoFar.{IsSoFar, the_axes, the_blocks, the_reactions}
 use Rattle.smol_config.proofs.Kept.{passed_over_kept, axes_kept, names_kept, moves_kept, starts_kept, stops_kept, steps_kept, limits_kept, seeds_kept, walls_kept, places_kept, of_reactions_kept, of_blocks_kept, writes_kept, performs_kept}
 
+-- a value that stands once wasn't given before, and is what its word means
+first_of_once : {T : Type 0} (given : Option T) (meaning : List ℕ → Result T Kind) (line : Stated) (value : T) → stands_once given meaning line ≡ Ok value → (given ≡ None) × (meaning (word_at line 1) ≡ Ok value)
+first_of_once given meaning line value is =
+    let first = passed (once given) (word_count 2 line ∷ []) (meaning (word_at line 1)) value is in
+    let counted = passed (word_count 2 line) [] (meaning (word_at line 1)) value first.1 in
+    (not_yet given first.0, counted.1)
+
 dim_keeps : (before : List Said) (line : Stated) (dims : ℕ) → dim_in (axes_of before) line ≡ Ok dims → IsSoFar before → IsSoFar (axes dims ∷ before)
 unfolding dim_in
 dim_keeps before line dims is h =
-    let value = count_in 1 3 (word_at line 1) in
-    let new = passed (once (dims_of before)) (word_count 2 line ∷ []) value dims is in
-    let counted = passed (word_count 2 line) [] value dims new.1 in
-    axes_kept before dims (not_yet (dims_of before) new.0) (count_in-low 1 3 (word_at line 1) dims counted.1) (count_in-high 1 3 (word_at line 1) dims counted.1) h
+    let given = first_of_once (dims_of before) (λ word. count_in 1 3 word) line dims is in
+    axes_kept before dims given.0 (count_in-low 1 3 (word_at line 1) dims given.1) (count_in-high 1 3 (word_at line 1) dims given.1) h
 
 species_keeps : (before : List Said) (line : Stated) (more : List (List ℕ)) → species_in (species_of before) line ≡ Ok more → IsSoFar before → IsSoFar (names more ∷ before)
 unfolding species_in
@@ -80,37 +86,35 @@ species_keeps before line more is h =
     names_kept before more (subst (λ (names : List (List ℕ)). length (species_of before) + length names ≤ 256) same fits) h
 
 -- a time is within its range
-time_small : (given : Option ℤ) (line : Stated) (time : ℤ) → given_time_in given line ≡ Ok time → unsigned_abs time ≤ 1000000000000000000
-unfolding given_time_in
-time_small given line time is =
-    let value = nanos_in (word_at line 1) in
-    let a = passed (once given) (word_count 2 line ∷ []) value time is in
-    let b = passed (word_count 2 line) [] value time a.1 in
-    let range = decimal_in-within 9 (negsuc 999999999999999999) (pos 1000000000000000000) (word_at line 1) time b.1 in
+nanos_small : (word : List ℕ) (time : ℤ) → nanos_in word ≡ Ok time → unsigned_abs time ≤ 1000000000000000000
+nanos_small word time is =
+    let range = decimal_in-within 9 (negsuc 999999999999999999) (pos 1000000000000000000) word time is in
     let low = range.0 in
     let high = range.1 in
     omega (arith, ints)
 
-time_step_keeps : (before : List Said) (line : Stated) (time : ℤ) → time_step_in (time_step_of before) line ≡ Ok time → IsSoFar before → IsSoFar (steps time ∷ before)
+time_small : (given : Option ℤ) (line : Stated) (time : ℤ) → given_time_in given line ≡ Ok time → unsigned_abs time ≤ 1000000000000000000
+unfolding given_time_in
+time_small given line time is = let by = first_of_once given nanos_in line time is in nanos_small (word_at line 1) time by.1
+
+-- and that of a step is above 0
+step_fits : (given : Option ℤ) (line : Stated) (time : ℤ) → time_step_in given line ≡ Ok time → (unsigned_abs time ≤ 1000000000000000000) × (pos 0 <ℤ time)
 unfolding time_step_in
-time_step_keeps before line time is h =
+step_fits given line time is =
+    let by = first_of_once given step_in line time is in
     let next = λ (time : ℤ). passing (unless (int_lt (pos 0) time) kind.OutOfRange ∷ []) (Ok time) in
-    let found = valued (given_time_in (time_step_of before) line) next time is in
-    let value : Result ℤ Kind = Ok found.0 in
-    let passes = passed (unless (int_lt (pos 0) found.0) kind.OutOfRange) [] value time found.2 in
-    let test = holds (int_lt (pos 0) found.0) kind.OutOfRange passes.0 in
+    let found = valued (nanos_in (word_at line 1)) next time by.1 in
+    let passes = held (int_lt (pos 0) found.0) kind.OutOfRange [] (Ok found.0) time found.2 in
+    let test = passes.0 in
     let above : pos 0 <ℤ found.0 = grind (arith, nat_tests) in
     let same : found.0 ≡ time = cc in
-    let small = time_small (time_step_of before) line found.0 found.1 in
-    subst (λ (t : ℤ). IsSoFar (steps t ∷ before)) same (steps_kept before found.0 small above h)
+    subst (λ (t : ℤ). (unsigned_abs t ≤ 1000000000000000000) × (pos 0 <ℤ t)) same (nanos_small (word_at line 1) found.0 found.1, above)
 
 max_mol_keeps : (before : List Said) (line : Stated) (count : ℕ) → max_mol_in (max_mol_of before) line ≡ Ok count → IsSoFar before → IsSoFar (limits count ∷ before)
 unfolding max_mol_in
 max_mol_keeps before line count is h =
-    let value = count_in 1 1000000 (word_at line 1) in
-    let a = passed (once (max_mol_of before)) (word_count 2 line ∷ []) value count is in
-    let b = passed (word_count 2 line) [] value count a.1 in
-    limits_kept before count (count_in-low 1 1000000 (word_at line 1) count b.1) (count_in-high 1 1000000 (word_at line 1) count b.1) h
+    let given = first_of_once (max_mol_of before) (λ word. count_in 1 1000000 word) line count is in
+    limits_kept before count (count_in-low 1 1000000 (word_at line 1) count given.1) (count_in-high 1 1000000 (word_at line 1) count given.1) h
 
 -- a length is within its range
 length_small : (word : List ℕ) (x : ℤ) → micros_in word ≡ Ok x → unsigned_abs x ≤ 1000000000000
@@ -282,7 +286,7 @@ cmd_keeps before line command is outside h =
     (subst (λ (count : ℕ). IsCommand (length (species_of before)) count (length (outputs_of before)) (walls_of (axes_of before)) command) closed sound) h
 
 -- a line keeps what the value that it says keeps
-by_value : {V : Type 0} (said : V → Said) (rule : Result V Kind) (before : List Said) (one : Said) → say said rule ≡ Ok one → ((value : V) → rule ≡ Ok value → IsSoFar (said value ∷ before)) → IsSoFar (one ∷ before)
+by_value : {T : Type 0} (said : T → Said) (rule : Result T Kind) (before : List Said) (one : Said) → say said rule ≡ Ok one → ((value : T) → rule ≡ Ok value → IsSoFar (said value ∷ before)) → IsSoFar (one ∷ before)
 by_value said rule before one is keeps =
     let by = said_by said rule one is in
     subst (λ (one : Said). IsSoFar (one ∷ before)) by.2 (keeps by.0 by.1)
@@ -300,7 +304,7 @@ statement_keeps statement.Difc before line said place is h = by_value (λ given.
 statement_keeps statement.Difstep before line said place is h = by_value (λ given. moves given.0 given.1) _ before said is (λ given is. moves_kept before given.0 given.1 h)
 statement_keeps statement.TimeStart before line said place is h = by_value starts _ before said is (λ time is. starts_kept before time (time_small (time_start_of before) line time is) h)
 statement_keeps statement.TimeStop before line said place is h = by_value stops _ before said is (λ time is. stops_kept before time (time_small (time_stop_of before) line time is) h)
-statement_keeps statement.TimeStep before line said place is h = by_value steps _ before said is (λ time is. time_step_keeps before line time is h)
+statement_keeps statement.TimeStep before line said place is h = by_value steps _ before said is (λ time is. steps_kept before time (step_fits (time_step_of before) line time is) h)
 statement_keeps statement.MaxMol before line said place is h = by_value limits _ before said is (λ count is. max_mol_keeps before line count is h)
 statement_keeps statement.RandomSeed before line said place is h = by_value seeds _ before said is (λ seed is. seeds_kept before seed h)
 statement_keeps statement.Boundaries before line said place is h = by_value (λ given. walls given.0 given.1) _ before said is (λ given is. boundaries_keep before line given is h)

@@ -1,5 +1,6 @@
 pub mod Said
 pub mod Axes
+pub mod Once
 pub mod Dim
 pub mod Species
 pub mod Motion

@@ -1,5 +1,6 @@
 -- What the reader keeps of the lines read so far. This is no part of what a text means.
-use Rattle.std.specs.Prelude.{◌≡◌, ◌≤◌, ◌+◌, ◌==◌, ℕ, ℤ, unsigned_abs, List, [], ◌∷◌, length, drop, Some, Result, Ok, Err, slice_index_or, if◌then◌else◌}
+use Rattle.std.specs.Prelude.{◌≡◌, ◌≤◌, ◌+◌, ◌==◌, ℕ, ℤ, unsigned_abs, List, [], ◌∷◌, length, drop, Option, Some, Result, Ok, Err, slice_index_or, if◌then◌else◌}
+use Rattle.std.specs.Result.{IsOk}
 use Rattle.smol_text.specs.Reading.{Stated}
 use Rattle.smol_types.specs.declared.draft.Draft.{Draft}
 use Rattle.smol_types.specs.declared.fault.ConfigFault.{ConfigFault}
@@ -14,6 +15,7 @@ use Rattle.smol_line.specs.Fault.{TellsFault}
 use Rattle.smol_line.specs.Length.{most_micros}
 use Rattle.smol_line.specs.LookingBack.{Reads as ReadsLine}
 use Rattle.smol_line.specs.declared.refusal.Refusal.{Refusal}
+use Rattle.smol_line.specs.declared.refusal.Refusal.TheVariants.{At}
 use Rattle.smol_blocks.specs.declared.blocks.Blocks.{Blocks}
 use Rattle.smol_blocks.specs.Blocks.{BlockSaid}
 use Rattle.smol_blocks.specs.BlocksTable.{Holds as HoldsBlocks, IsKept as AreBlocksKept}
@@ -66,6 +68,11 @@ pub record Holds (tables : Tables) (before : List Said) : Type 0 where
 -- how the reading of a line ends: it is taken and the tables hold what it says too, or its fault is told, or memory ran out
 abbrev pub Reads : {T : Type 0} → (List Said → Stated → Result Said Kind) → Stated → Tables → Tables → Result T Refusal → Type 0
 Reads rule line old new result = ReadsLine Holds (λ before. rule before line) old new result
+
+-- a value that stands once is kept, or the fault of its line is told
+abbrev pub Keeps : {T U : Type 0} → Result T Kind → Option T → Option T → Result U Refusal → Type 0
+Keeps (Ok value) old new result = (new ≡ Some value) × IsOk result
+Keeps (Err kind) old new result = (new ≡ old) × (result ≡ Err (At kind))
 
 -- the parts of the tables fit each other, and no more is in them than there may be
 pub record AreReady (tables : Tables) : Type 0 where

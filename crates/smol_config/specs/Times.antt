@@ -4,10 +4,10 @@ use Rattle.smol_text.specs.Reading.{Stated}
 use Rattle.smol_types.specs.declared.fault.Kind.{Kind}
 use Rattle.smol_types.specs.declared.fault.Kind.TheVariants.{OutOfRange}
 use Rattle.smol_types.specs.Limits.{latest}
-use Rattle.smol_line.specs.Words.{word_at}
-use Rattle.smol_line.specs.Checks.{unless, once, word_count, passing, with_value}
+use Rattle.smol_line.specs.Checks.{unless, passing, with_value}
 use Rattle.smol_line.specs.Numbers.{decimal_in}
 use Rattle.smol_line.specs.LookingBack.{nearest}
+use Rattle.smol_config.specs.Once.{stands_once}
 use Rattle.smol_config.specs.Said.{Said, starts, stops, steps}
 
 -- a time in nanos
@@ -38,9 +38,12 @@ time_step_of before = nearest said_step before
 
 -- the time of a line, by what a line before gives by the same statement
 unfoldable pub given_time_in : Option ℤ → Stated → Result ℤ Kind
-given_time_in given line = passing (once given ∷ word_count 2 line ∷ []) (nanos_in (word_at line 1))
+given_time_in given line = stands_once given nanos_in line
 
--- the same of a step, which takes some time
+-- the time of a step, which takes some
+abbrev pub step_in : List ℕ → Result ℤ Kind
+step_in word = with_value (nanos_in word) (λ time. passing (unless (int_lt (pos 0) time) OutOfRange ∷ []) (Ok time))
+
+-- the same of a line
 unfoldable pub time_step_in : Option ℤ → Stated → Result ℤ Kind
-time_step_in given line =
-    with_value (given_time_in given line) (λ time. passing (unless (int_lt (pos 0) time) OutOfRange ∷ []) (Ok time))
+time_step_in given line = stands_once given step_in line
