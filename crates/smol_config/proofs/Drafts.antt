@@ -29,10 +29,10 @@ module _ (needed : Needed) (tables : Tables) (before : List Said) (h : Holds tab
   species_held = species_are needed.step before tables.species.motions.items (λ number. ap (λ (known : Looked). known.motions number) h.plain) 0 tables.species.names ∙ ap (λ (known : Looked). species_from needed.step before 0 known.species) h.plain
 
   -- what the tables make is what the lines say
-  pub drafted_is : (parts : Parts) → parts.start ≡ started tables.start → parts.species ≡ species_made needed.step tables.species.motions.items 0 tables.species.names → parts.walls ≡ walls_of tables.axes → parts.outputs ≡ tables.outputs → drafted needed parts tables ≡ content_of needed before
+  pub drafted_is : (parts : Parts) → parts.start ≡ started tables.times.start → parts.species ≡ species_made needed.step tables.species.motions.items 0 tables.species.names → parts.walls ≡ walls_of tables.axes → parts.outputs ≡ tables.outputs → drafted needed parts tables ≡ content_of needed before
   unfolding content_of
   drafted_is parts start made walled written =
-      let start = start ∙ ap (λ (known : Looked). started known.start) h.plain in
+      let start = start ∙ ap (λ (known : Looked). started known.times.start) h.plain in
       let species = made ∙ species_held in
       let walls = walled ∙ ap (λ (known : Looked). walls_of known.axes) h.plain in
       let outputs = written ∙ ap (λ (known : Looked). known.outputs) h.plain in
@@ -89,18 +89,18 @@ start_within None within = omega arith
 start_within (Some time) within = within
 
 -- the steps that the tables make are those of the content
-pub few_steps : (needed : Needed) (tables : Tables) (before : List Said) (start : ℤ) (count : ℕ) → Holds tables before → start ≡ unwrap_or tables.start (pos 0) → IfSome tables.start (λ time. unsigned_abs time ≤ 1000000000000000000) → unsigned_abs needed.stop ≤ 1000000000000000000 → unsigned_abs needed.step ≤ 1000000000000000000
+pub few_steps : (needed : Needed) (tables : Tables) (before : List Said) (start : ℤ) (count : ℕ) → Holds tables before → start ≡ unwrap_or tables.times.start (pos 0) → IfSome tables.times.start (λ time. unsigned_abs time ≤ 1000000000000000000) → unsigned_abs needed.stop ≤ 1000000000000000000 → unsigned_abs needed.step ≤ 1000000000000000000
     → count ≡ last_step (to_z w64 (of_z w64 start)) (to_z w64 (of_z w64 needed.stop)) (to_z w64 (of_z w64 needed.step)) → nat_le count 4000000 ≡ has_few_steps (content_of needed before)
 unfolding content_of
 few_steps needed tables before start count h is within stop step counted =
-    let from = ap (λ (t : ℤ). to_z w64 (of_z w64 t)) is ∙ time_kept (unwrap_or tables.start (pos 0)) (start_within tables.start within) ∙ ap (λ (known : Looked). started known.start) h.plain in
+    let from = ap (λ (t : ℤ). to_z w64 (of_z w64 t)) is ∙ time_kept (unwrap_or tables.times.start (pos 0)) (start_within tables.times.start within) ∙ ap (λ (known : Looked). started known.times.start) h.plain in
     let to = time_kept needed.stop stop in
     let by = time_kept needed.step step in
     ap (λ n. nat_le n 4000000) (counted ∙ (λ j. last_step (from j) (to j) (by j)))
 
 -- what the tables give of what a file can't do without is what the lines say of it
-pub needed_held : (tables : Tables) (before : List Said) → Holds tables before → (found : Result Needed Kind) → found ≡ needed_from tables.axes tables.stop tables.step → needed_in before ≡ found
-needed_held tables before h found is = sym (is ∙ ap (λ (known : Looked). needed_from known.axes known.stop known.step) h.plain)
+pub needed_held : (tables : Tables) (before : List Said) → Holds tables before → (found : Result Needed Kind) → found ≡ needed_from tables.axes tables.times → needed_in before ≡ found
+needed_held tables before h found is = sym (is ∙ ap (λ (known : Looked). needed_from known.axes known.times) h.plain)
 
 -- a test that fails tells its fault
 pub unless_fails : (test : Bool) (kind why : Kind) → Some kind ≡ unless test why → (test ≡ false) × (kind ≡ why)

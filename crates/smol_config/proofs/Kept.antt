@@ -1,5 +1,5 @@
 -- What holds so far is kept by what each line says.
-use Rattle.std.proofs.Common.{◌≡◌, ◌+◌, ◌<◌, ◌≤◌, ◌||◌, true, false, ℕ, zero, suc, ℤ, pos, ◌<ℤ◌, nat_le, List, [], ◌∷◌, ◌++◌, length, All, Option, None, Some, IfSome, IsSomeAnd, unsigned_abs, arith, subst}
+use Rattle.std.proofs.Common.{◌≡◌, ◌+◌, ◌<◌, ◌≤◌, ◌||◌, true, false, ℕ, zero, suc, nat_le, List, [], ◌∷◌, ◌++◌, length, All, Option, None, Some, IfSome, IsSomeAnd, arith, subst}
 use Rattle.std.proofs.lemmas.Bool.Decides.{nat_tests}
 use Rattle.std.proofs.lemmas.List.{length-append}
 use Rattle.std.proofs.lemmas.List.Elements.{All-push, All-weaker}
@@ -22,7 +22,7 @@ use Rattle.smol_reactions.specs.ReactionSaid.{ReactionSaid}
 use Rattle.smol_reactions.specs.Sound.{AreReactions}
 use Rattle.smol_reactions.proofs.SoundSaid.{dims_keep, species_keep}
 use Rattle.smol_config.specs.declared.motion.Motion.{Motion}
-use Rattle.smol_config.specs.Said.{Said, passed_over, axes, names, moves, starts, stops, steps, limits, seeds, walls, places, of_reactions, of_blocks, writes, performs}
+use Rattle.smol_config.specs.Said.{Said, TimeSaid, passed_over, axes, names, moves, of_times, limits, seeds, walls, places, of_reactions, of_blocks, writes, performs}
 use Rattle.smol_config.specs.Axes.{axes_of, bounds_of, dims_of}
 use Rattle.smol_config.specs.Species.{species_of}
 use Rattle.smol_config.specs.Boundaries.{bounds_at}
@@ -30,7 +30,8 @@ use Rattle.smol_config.specs.Mol.{placings_of}
 use Rattle.smol_config.specs.Reactions.{reactions_said}
 use Rattle.smol_config.specs.Blocks.{blocks_said, compartment_count}
 use Rattle.smol_config.specs.Commands.{commands_of, outputs_of}
-use Rattle.smol_config.specs.SoFar.{IsSoFar, the_axes, the_species, the_start, the_stop, the_step, the_limit, the_order, the_placings, the_reactions, the_blocks, the_outputs, the_command_count, the_commands}
+use Rattle.smol_config.specs.Times.{times_of}
+use Rattle.smol_config.specs.SoFar.{AreTimes, IsSoFar, the_axes, the_species, the_times, the_limit, the_order, the_placings, the_reactions, the_blocks, the_outputs, the_command_count, the_commands}
 
 -- with more species and compartments each number is one of them still
 IsPlacing-more : (n m compartments more_compartments : ℕ) (around : List Wall) → n ≤ m → compartments ≤ more_compartments → (one : Placing) → IsPlacing n compartments around one → IsPlacing m more_compartments around one
@@ -96,17 +97,9 @@ pub moves_kept : (before : List Said) (chosen : Chosen) (motion : Motion) → Is
 moves_kept before chosen motion h the_axes = h the_axes
 moves_kept before chosen motion h other = h other
 
-pub starts_kept : (before : List Said) (time : ℤ) → unsigned_abs time ≤ 1000000000000000000 → IsSoFar before → IsSoFar (starts time ∷ before)
-starts_kept before time small h the_start = small
-starts_kept before time small h other = h other
-
-pub stops_kept : (before : List Said) (time : ℤ) → unsigned_abs time ≤ 1000000000000000000 → IsSoFar before → IsSoFar (stops time ∷ before)
-stops_kept before time small h the_stop = small
-stops_kept before time small h other = h other
-
-pub steps_kept : (before : List Said) (time : ℤ) → (unsigned_abs time ≤ 1000000000000000000) × (pos 0 <ℤ time) → IsSoFar before → IsSoFar (steps time ∷ before)
-steps_kept before time fits h the_step = fits
-steps_kept before time fits h other = h other
+pub times_kept : (before : List Said) (said : TimeSaid) → AreTimes (times_of (of_times said ∷ before)) → IsSoFar before → IsSoFar (of_times said ∷ before)
+times_kept before said fit h the_times = fit
+times_kept before said fit h other = h other
 
 pub limits_kept : (before : List Said) (count : ℕ) → 1 ≤ count → count ≤ 1000000 → IsSoFar before → IsSoFar (limits count ∷ before)
 limits_kept before count least most h the_limit = (least, most)

@@ -39,7 +39,7 @@ use Rattle.smol_cmd.proofs.Sound.{commands_are_few, commands_are_sound}
 use Rattle.smol_reactions.proofs.SoundSaid.{binding_radius_keeps, product_placement_keeps, reaction_keeps, reaction_probability_keeps}
 use Rattle.smol_blocks.specs.declared.statement.Statement.{Statement}
 use Rattle.smol_blocks.specs.declared.statement.Statement.TheVariants as statement
-use Rattle.smol_config.specs.Said.{Said, passed_over, axes, names, moves, starts, stops, steps, limits, seeds, walls, places, of_reactions, of_blocks, writes, performs}
+use Rattle.smol_config.specs.Said.{Said, passed_over, axes, names, moves, starts, stops, steps, of_times, limits, seeds, walls, places, of_reactions, of_blocks, writes, performs}
 use Rattle.smol_blocks.specs.Statement.{may_stand, statement_of}
 use Rattle.smol_config.specs.Axes.{axes_of, dims_of}
 use Rattle.smol_config.specs.Once.{stands_once}
@@ -54,8 +54,8 @@ use Rattle.smol_config.specs.Blocks.{blocks_said, stands_outside}
 use Rattle.smol_config.specs.CompartmentMol.{compartment_mol_in}
 use Rattle.smol_config.specs.Commands.{commands_of, known_before, outputs_of}
 use Rattle.smol_config.specs.Reader.{statement_in, line_in}
-use Rattle.smol_config.specs.SoFar.{IsSoFar, the_axes, the_blocks, the_reactions}
-use Rattle.smol_config.proofs.Kept.{passed_over_kept, axes_kept, names_kept, moves_kept, starts_kept, stops_kept, steps_kept, limits_kept, seeds_kept, walls_kept, places_kept, of_reactions_kept, of_blocks_kept, writes_kept, performs_kept}
+use Rattle.smol_config.specs.SoFar.{IsSoFar, the_axes, the_blocks, the_reactions, the_times}
+use Rattle.smol_config.proofs.Kept.{passed_over_kept, axes_kept, names_kept, moves_kept, times_kept, limits_kept, seeds_kept, walls_kept, places_kept, of_reactions_kept, of_blocks_kept, writes_kept, performs_kept}
 
 -- a value that stands once wasn't given before, and is what its word means
 first_of_once : {T : Type 0} (given : Option T) (meaning : List ℕ → Result T Kind) (line : Stated) (value : T) → stands_once given meaning line ≡ Ok value → (given ≡ None) × (meaning (word_at line 1) ≡ Ok value)
@@ -302,9 +302,12 @@ statement_keeps statement.Dim before line said place is h = by_value axes _ befo
 statement_keeps statement.Species before line said place is h = by_value names _ before said is (λ more is. species_keeps before line more is h)
 statement_keeps statement.Difc before line said place is h = by_value (λ given. moves given.0 given.1) _ before said is (λ given is. moves_kept before given.0 given.1 h)
 statement_keeps statement.Difstep before line said place is h = by_value (λ given. moves given.0 given.1) _ before said is (λ given is. moves_kept before given.0 given.1 h)
-statement_keeps statement.TimeStart before line said place is h = by_value starts _ before said is (λ time is. starts_kept before time (time_small (time_start_of before) line time is) h)
-statement_keeps statement.TimeStop before line said place is h = by_value stops _ before said is (λ time is. stops_kept before time (time_small (time_stop_of before) line time is) h)
-statement_keeps statement.TimeStep before line said place is h = by_value steps _ before said is (λ time is. steps_kept before time (step_fits (time_step_of before) line time is) h)
+statement_keeps statement.TimeStart before line said place is h =
+    by_value (λ time. of_times (starts time)) _ before said is (λ time is. times_kept before (starts time) (record { start = time_small (time_start_of before) line time is; stop = (h the_times).stop; step = (h the_times).step }) h)
+statement_keeps statement.TimeStop before line said place is h =
+    by_value (λ time. of_times (stops time)) _ before said is (λ time is. times_kept before (stops time) (record { start = (h the_times).start; stop = time_small (time_stop_of before) line time is; step = (h the_times).step }) h)
+statement_keeps statement.TimeStep before line said place is h =
+    by_value (λ time. of_times (steps time)) _ before said is (λ time is. times_kept before (steps time) (record { start = (h the_times).start; stop = (h the_times).stop; step = step_fits (time_step_of before) line time is }) h)
 statement_keeps statement.MaxMol before line said place is h = by_value limits _ before said is (λ count is. max_mol_keeps before line count is h)
 statement_keeps statement.RandomSeed before line said place is h = by_value seeds _ before said is (λ seed is. seeds_kept before seed h)
 statement_keeps statement.Boundaries before line said place is h = by_value (λ given. walls given.0 given.1) _ before said is (λ given is. boundaries_keep before line given is h)

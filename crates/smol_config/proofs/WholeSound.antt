@@ -42,7 +42,7 @@ use Rattle.smol_config.specs.Commands.{commands_of, outputs_of}
 use Rattle.smol_config.specs.Content.{content_of, species_from, started}
 use Rattle.smol_config.specs.Whole.{bounded, has_chances, has_difstep, has_few_steps, has_room, needed_from, needed_in, behind_blocks, closed_in, whole_in}
 use Rattle.smol_config.specs.Reader.{config_from, config_of, line_in, lines_in, read_from}
-use Rattle.smol_config.specs.SoFar.{IsSoFar, the_axes, the_species, the_start, the_stop, the_step, the_limit, the_order, the_placings, the_reactions, the_blocks, the_outputs, the_command_count, the_commands}
+use Rattle.smol_config.specs.SoFar.{IsSoFar, the_axes, the_species, the_times, the_limit, the_order, the_placings, the_reactions, the_blocks, the_outputs, the_command_count, the_commands}
 use Rattle.smol_config.specs.Tables.{AreSmall}
 use Rattle.smol_config.proofs.Rules.{line_keeps}
 
@@ -175,9 +175,9 @@ unfolding content_of walls_of
 content_is_sound before needed h is few near room shared =
     let given = needed_is before needed is in
     let axes = rw given.0 at (h the_axes).dims in
-    let stop = rw given.4 at (h the_stop) in
-    let step = rw given.5 at (h the_step) in
-    let start = time_within (time_start_of before) (h the_start) in
+    let stop = rw given.4 at (h the_times).stop in
+    let step = rw given.5 at (h the_times).step in
+    let start = time_within (time_start_of before) (h the_times).start in
     let most = limit_within (max_mol_of before) (h the_limit) in
     let Q : ℕ → Option Bounds → Option ℕ → Type 0 = λ axis bounds dims. IfSome bounds (IsBounded dims axis) in
     let walls = are_walls needed.dims (bounds_of 0 before) (bounds_of 1 before) (bounds_of 2 before) axes.0 axes.1 given.1 given.2 given.3
@@ -240,9 +240,7 @@ whole_is_sound before draft h is = closed_is_sound before draft h (closed_by (op
 pub nothing_yet : IsSoFar []
 nothing_yet the_axes = record { dims = tt; x = tt; y = tt; z = tt }
 nothing_yet the_species = omega arith
-nothing_yet the_start = tt
-nothing_yet the_stop = tt
-nothing_yet the_step = tt
+nothing_yet the_times = record { start = tt; stop = tt; step = tt }
 nothing_yet the_limit = tt
 nothing_yet the_order = λ some. absurd (omega arith)
 nothing_yet the_placings = λ k d within. absurd (omega arith)

@@ -6,23 +6,28 @@ use Rattle.smol_types.specs.Commands.{IsCommand}
 use Rattle.smol_line.specs.Axes.{AreAxes, AreSettled, walls_of}
 use Rattle.smol_blocks.specs.BlocksSound.{AreBlocks}
 use Rattle.smol_reactions.specs.Sound.{AreReactions}
+use Rattle.smol_config.specs.declared.times.Times.{Times}
 use Rattle.smol_config.specs.Said.{Said}
 use Rattle.smol_config.specs.Axes.{axes_of, dims_of}
 use Rattle.smol_config.specs.Species.{species_of}
-use Rattle.smol_config.specs.Times.{time_start_of, time_stop_of, time_step_of}
+use Rattle.smol_config.specs.Times.{times_of}
 use Rattle.smol_config.specs.MaxMol.{max_mol_of}
 use Rattle.smol_config.specs.Mol.{placings_of}
 use Rattle.smol_config.specs.Reactions.{reactions_said}
 use Rattle.smol_config.specs.Blocks.{blocks_said, compartment_count}
 use Rattle.smol_config.specs.Commands.{commands_of, outputs_of}
 
+-- times in their range, and a step that takes some
+pub record AreTimes (times : Times) : Type 0 where
+  pub start : IfSome times.start (λ time. unsigned_abs time ≤ latest)
+  pub stop : IfSome times.stop (λ time. unsigned_abs time ≤ latest)
+  pub step : IfSome times.step (λ time. (unsigned_abs time ≤ latest) × (pos 0 <ℤ time))
+
 -- the matters of which something holds
 pub data Matter : Type 0 where
   the_axes : Matter
   the_species : Matter
-  the_start : Matter
-  the_stop : Matter
-  the_step : Matter
+  the_times : Matter
   the_limit : Matter
   the_order : Matter
   the_placings : Matter
@@ -36,9 +41,7 @@ pub data Matter : Type 0 where
 abbrev pub Stands : Matter → List Said → Type 0
 Stands the_axes before = AreAxes (axes_of before)
 Stands the_species before = length (species_of before) ≤ most_species
-Stands the_start before = IfSome (time_start_of before) (λ time. unsigned_abs time ≤ latest)
-Stands the_stop before = IfSome (time_stop_of before) (λ time. unsigned_abs time ≤ latest)
-Stands the_step before = IfSome (time_step_of before) (λ time. (unsigned_abs time ≤ latest) × (pos 0 <ℤ time))
+Stands the_times before = AreTimes (times_of before)
 Stands the_limit before = IfSome (max_mol_of before) (λ count. (1 ≤ count) × (count ≤ most_molecules))
 Stands the_order before = 0 < length (placings_of before) + length (commands_of before) → AreSettled (axes_of before)
 Stands the_placings before =

@@ -1,5 +1,5 @@
 -- The tests of the whole file, after its last line: what is missing, and what is too much.
-use Rattle.std.specs.Prelude.{ℕ, ℤ, Bool, nat_le, sum_by, List, [], ◌∷◌, length, Option, None, Some, Result, Ok, Err}
+use Rattle.std.specs.Prelude.{ℕ, Bool, nat_le, sum_by, List, [], ◌∷◌, length, Option, None, Some, Result, Ok, Err}
 use Rattle.std.specs.List.{list_all}
 use Rattle.smol_types.specs.declared.fault.Kind.{Kind}
 use Rattle.smol_types.specs.declared.fault.Kind.TheVariants.{Missing, OpenBlock, OutOfRange, ProbabilitySum, TooMany}
@@ -15,30 +15,31 @@ use Rattle.smol_line.specs.Fault.{Fault, fault_at, at_line}
 use Rattle.smol_line.specs.Checks.{unless, passing, with_value, there}
 use Rattle.smol_blocks.specs.Blocks.{block_of, opening_line}
 use Rattle.smol_reactions.specs.Content.{are_shared, chances_of}
+use Rattle.smol_config.specs.declared.times.Times.{Times}
 use Rattle.smol_config.specs.declared.whole.Needed.{Needed}
 use Rattle.smol_config.specs.Said.{Said}
 use Rattle.smol_config.specs.Axes.{axes_of}
-use Rattle.smol_config.specs.Times.{time_stop_of, time_step_of}
+use Rattle.smol_config.specs.Times.{times_of}
 use Rattle.smol_config.specs.Reactions.{reactions_said}
 use Rattle.smol_config.specs.Blocks.{blocks_said}
 use Rattle.smol_config.specs.Content.{content_of}
 
 -- what a file can't do without: the number of axes, their walls, the time at which the run stops, and that of a step
-unfoldable pub needed_from : Axes → Option ℤ → Option ℤ → Result Needed Kind
-needed_from axes stop step =
+unfoldable pub needed_from : Axes → Times → Result Needed Kind
+needed_from axes times =
     with_value (there axes.dims (Missing Dim)) (λ dims.
     passing
     (unless (is_walled dims 0 axes.x) (Missing (Boundaries 0))
     ∷ unless (is_walled dims 1 axes.y) (Missing (Boundaries 1))
     ∷ unless (is_walled dims 2 axes.z) (Missing (Boundaries 2))
     ∷ [])
-    (with_value (there stop (Missing TimeStop)) (λ stop.
-    with_value (there step (Missing TimeStep)) (λ step.
+    (with_value (there times.stop (Missing TimeStop)) (λ stop.
+    with_value (there times.step (Missing TimeStep)) (λ step.
     Ok (record { dims = dims; stop = stop; step = step })))))
 
 -- the same of what the lines say
 abbrev pub needed_in : List Said → Result Needed Kind
-needed_in before = needed_from (axes_of before) (time_stop_of before) (time_step_of before)
+needed_in before = needed_from (axes_of before) (times_of before)
 
 -- a run makes no more steps than it may
 abbrev pub has_few_steps : Draft → Bool

@@ -10,6 +10,7 @@ ghost use Rattle.smol_blocks.specs.Statement.{statement_of};
 ghost use Rattle.smol_config.specs.Tables.{Keeps};
 
 use crate::species_table::SpeciesTable;
+use crate::times::Times;
 use crate::{boundaries, compartment_mol, dim, max_mol, mol, motion, random_seed, species, times};
 use smol_blocks::{BlockStatement, Blocks, Statement, told_at};
 use smol_cmd::{read_cmd, read_output_files};
@@ -32,9 +33,7 @@ fn keep<T: Drop>(given: Result<T, Kind>, place: &mut Option<T>) -> Result<(), Re
 pub struct Tables {
     pub axes: Axes,
     pub species: SpeciesTable,
-    pub start: Option<i64>,
-    pub stop: Option<i64>,
-    pub step: Option<i64>,
+    pub times: Times,
     pub max_mol: Option<u32>,
     pub seed: Option<u64>,
     pub placings: Items<Placing>,
@@ -61,9 +60,11 @@ impl Tables {
                 z: None,
             },
             species: SpeciesTable::new(alloc),
-            start: None,
-            stop: None,
-            step: None,
+            times: Times {
+                start: None,
+                stop: None,
+                step: None,
+            },
             max_mol: None,
             seed: None,
             placings: Items::new(alloc),
@@ -249,9 +250,15 @@ impl Tables {
             Statement::Species => self.read_species(alloc, line),
             Statement::Difc => self.read_difc(line),
             Statement::Difstep => self.read_difstep(line),
-            Statement::TimeStart => keep(times::judge(self.start, line), &mut self.start),
-            Statement::TimeStop => keep(times::judge(self.stop, line), &mut self.stop),
-            Statement::TimeStep => keep(times::judge_step(self.step, line), &mut self.step),
+            Statement::TimeStart => keep(
+                times::judge(self.times.start, line),
+                &mut self.times.start,
+            ),
+            Statement::TimeStop => keep(times::judge(self.times.stop, line), &mut self.times.stop),
+            Statement::TimeStep => keep(
+                times::judge_step(self.times.step, line),
+                &mut self.times.step,
+            ),
             Statement::MaxMol => keep(max_mol::judge(self.max_mol, line), &mut self.max_mol),
             Statement::RandomSeed => keep(random_seed::judge(self.seed, line), &mut self.seed),
             Statement::Boundaries => self.read_boundaries(line),

@@ -10,6 +10,14 @@ use smol_types::Kind;
 /// How far a time may be from 0, in nanos.
 const MOST_NANOS: i64 = 1_000_000_000_000_000_000;
 
+/// The times of a run that are given, in nanos.
+#[derive(Clone, Copy)]
+pub struct Times {
+    pub start: Option<i64>,
+    pub stop: Option<i64>,
+    pub step: Option<i64>,
+}
+
 // A time in nanos.
 fn nanos_in(word: &[u8]) -> Result<i64, Kind>
     ensures value { result ≡ nanos_in word.now }

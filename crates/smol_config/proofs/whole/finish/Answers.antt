@@ -6,7 +6,7 @@ use Rattle.smol_reactions.specs.Content.{chances_of}
 use Rattle.smol_config.specs.Reactions.{reactions_said}
 use Rattle.smol_config.specs.Said.{Said}
 use Rattle.smol_config.specs.Looked.{Looked}
-use Rattle.smol_config.specs.SoFar.{the_axes, the_species, the_start, the_step, the_stop}
+use Rattle.smol_config.specs.SoFar.{the_axes, the_species, the_times}
 use Rattle.smol_config.specs.Tables.{Holds}
 use Rattle.smol_config.specs.Whole.{bounded, has_chances, closed_in}
 use Rattle.smol_config.proofs.Drafts.{needed_held}
@@ -21,10 +21,10 @@ draft_of-requires c =
     let h = c.requires.2 in
     let needed = c.in_ok-needed.needed in
     let given = needed_is before needed (needed_held c.args.tables before holds (Ok c.in_ok-needed.needed) c.in_ok-needed.ensures) in
-    let stop = rw given.4 at (h the_stop) in
-    let step = rw given.5 at (h the_step) in
+    let stop = rw given.4 at (h the_times).stop in
+    let step = rw given.5 at (h the_times).step in
     record {
-      start = subst (λ (known : Looked). IfSome known.start (λ time. unsigned_abs time ≤ 1000000000000000000)) (sym holds.plain) (h the_start);
+      start = subst (λ (known : Looked). IfSome known.times.start (λ time. unsigned_abs time ≤ 1000000000000000000)) (sym holds.plain) (h the_times).start;
       stop = stop;
       step = step.0;
       step_above = step.1;
