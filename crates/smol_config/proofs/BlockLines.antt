@@ -1,5 +1,5 @@
 -- A line in a block, as a line of the configuration.
-use Rattle.std.proofs.Common.{◌≡◌, ◌∷◌, [], ℕ, Bool, true, false, List, length, Option, None, Some, Result, Ok, Err, refl, sym, ap, ◌∙◌, subst}
+use Rattle.std.proofs.Common.{◌≡◌, ◌∷◌, [], ℕ, false, List, length, Option, None, Some, Result, Ok, Err, refl, ap, ◌∙◌}
 use Rattle.smol_text.specs.Reading.{Stated}
 use Rattle.smol_types.specs.declared.compartment.Compartment.{Compartment}
 use Rattle.smol_types.specs.declared.fault.Kind.{Kind}
@@ -7,12 +7,11 @@ use Rattle.smol_line.specs.declared.axes.Axes.{Axes}
 use Rattle.smol_line.specs.Axes.{needs_dim}
 use Rattle.smol_line.specs.Checks.{passing, with_value, word_count}
 use Rattle.smol_line.specs.LookingBack.{say}
-use Rattle.smol_line.specs.Words.{word_at}
 use Rattle.smol_blocks.specs.declared.block_statement.BlockStatement.{BlockStatement}
 use Rattle.smol_blocks.specs.declared.block_statement.BlockStatement.TheVariants.{StartSurface, InSurface, EndSurface, StartCompartment, Surface, Point, EndCompartment}
 use Rattle.smol_blocks.specs.declared.statement.Statement.{Statement}
 use Rattle.smol_blocks.specs.declared.statement.Statement.TheVariants.{PassedOver, NotInProfile, Unknown, Block}
-use Rattle.smol_blocks.specs.Blocks.{Block as TheBlock, in_surface, in_compartment, of_surface, closes_surface, of_compartment, closes_compartment, block_line_in, block_of, bound_said, end_compartment_said, end_surface_in, in_surface_in, is_outside, known_to, panels_in, panels_of, point_said, start_compartment_in, start_surface_in, surface_names, surfaces_of}
+use Rattle.smol_blocks.specs.Blocks.{in_surface, in_compartment, of_surface, closes_surface, of_compartment, closes_compartment, block_line_in, block_of, bound_said, end_compartment_said, end_surface_in, in_surface_in, is_outside, known_to, panels_in, panels_of, point_said, start_compartment_in, start_surface_in, surface_names, surfaces_of}
 use Rattle.smol_blocks.specs.BlockText.{InBlock, passes, says, ends, compartment_rules, line_of_block, surface_rules}
 use Rattle.smol_blocks.specs.Compartment.{CompartmentSaid, bounded, holds, bound_in, compartment_of, end_compartment_in, point_in}
 use Rattle.smol_blocks.specs.Surface.{Known, SurfaceSaid, surface_line_in, surface_of}

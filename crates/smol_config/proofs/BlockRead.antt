@@ -1,14 +1,10 @@
 -- A block that is read as a whole, between the lines around it.
-use Rattle.std.proofs.Common.{◌≡◌, ◌+◌, ◌++◌, ◌∷◌, [], ℕ, true, List, length, drop, Some, Result, Ok, Err, OnOk, refl, sym, ap, ◌∙◌, subst}
+use Rattle.std.proofs.Common.{◌≡◌, ◌+◌, ◌++◌, ◌∷◌, [], ℕ, List, length, drop, Result, Ok, Err, OnOk, refl, sym, ap, ◌∙◌, subst}
 use Rattle.smol_text.specs.Reading.{Stated}
-use Rattle.smol_types.specs.declared.draft.Draft.{Draft}
 use Rattle.smol_types.specs.declared.fault.ConfigFault.{ConfigFault}
 use Rattle.smol_types.specs.declared.fault.ConfigFault.TheVariants as fault
 use Rattle.smol_types.specs.declared.fault.Kind.{Kind}
-use Rattle.smol_types.specs.declared.surface.Panel.{Panel as ThePanel}
-use Rattle.smol_types.specs.declared.surface.Surface.{Surface as TheSurface}
 use Rattle.smol_types.specs.Limits.{most_compartments, most_surfaces}
-use Rattle.smol_line.specs.declared.axes.Axes.{Axes}
 use Rattle.smol_line.specs.declared.refusal.Refusal.{Refusal}
 use Rattle.smol_line.specs.declared.refusal.Refusal.TheVariants.{At, OutOfMemory}
 use Rattle.smol_line.specs.Axes.{needs_dim}
@@ -19,15 +15,12 @@ use Rattle.smol_line.specs.Words.{word_at}
 use Rattle.smol_line.proofs.Passing.{valued}
 use Rattle.smol_blocks.specs.declared.block_statement.BlockStatement.TheVariants.{StartSurface, StartCompartment}
 use Rattle.smol_blocks.specs.declared.blocks.Blocks.{Blocks}
-use Rattle.smol_blocks.specs.declared.drafts.CompartmentDraft.{CompartmentDraft}
-use Rattle.smol_blocks.specs.declared.drafts.SurfaceDraft.{SurfaceDraft}
 use Rattle.smol_blocks.specs.declared.statement.Statement.{Statement}
 use Rattle.smol_blocks.specs.declared.statement.Statement.TheVariants.{Block}
 use Rattle.smol_blocks.specs.BlockName.{block_name_in}
-use Rattle.smol_blocks.specs.Blocks.{BlockSaid, block_line_in, block_of, closes_surface, compartment_names, in_compartment, in_surface, is_outside, no_block, opening_line, opens_compartment, opens_surface, surface_names}
+use Rattle.smol_blocks.specs.Blocks.{block_line_in, compartment_names, in_compartment, in_surface, opening_line, opens_compartment, opens_surface, surface_names}
 use Rattle.smol_blocks.specs.BlocksTable.{AddsCompartment, AddsSurface, IsKept, ReadsBlock, ReadsCompartment, ReadsSurface}
-use Rattle.smol_blocks.specs.BlockReads.{said_with, stays_open}
-use Rattle.smol_blocks.specs.BlockText.{InBlock, passes, says, ends, block_from, compartment_block, compartment_draft, in_compartment_block, in_surface_block, surface_block, surface_draft}
+use Rattle.smol_blocks.specs.BlockText.{ends, block_from, compartment_block, compartment_draft, in_compartment_block, in_surface_block, surface_block, surface_draft}
 use Rattle.smol_blocks.specs.Compartment.{CompartmentSaid}
 use Rattle.smol_blocks.specs.Statement.{statement_of}
 use Rattle.smol_blocks.specs.Surface.{Known, SurfaceSaid}
@@ -37,12 +30,13 @@ use Rattle.smol_config.specs.declared.tables.Tables.{Tables}
 use Rattle.smol_config.specs.Said.{Said, of_blocks}
 use Rattle.smol_config.specs.Axes.{axes_of}
 use Rattle.smol_config.specs.Blocks.{blocks_said}
+use Rattle.smol_config.specs.Looked.{Looked}
 use Rattle.smol_config.specs.Reader.{line_in, placed_in, read_from, statement_in}
 use Rattle.smol_config.specs.SoFar.{IsSoFar}
-use Rattle.smol_config.specs.Tables.{Holds, Reads, ReadsBehind, ReadsOn}
+use Rattle.smol_config.specs.Tables.{Holds, ReadsBehind, ReadsOn}
 use Rattle.smol_config.specs.Whole.{whole_in}
 use Rattle.smol_config.proofs.BlockLines.{compartment_line, compartment_told, surface_line, surface_told}
-use Rattle.smol_config.proofs.BlockTables.{Within, compartment_closed, compartment_opened, compartment_within, surface_closed, surface_opened, surface_within}
+use Rattle.smol_config.proofs.BlockTables.{Lists, Within, compartment_closed, compartment_opened, compartment_within, surface_closed, surface_opened, surface_within}
 use Rattle.smol_config.proofs.BlockWise.{Ends, block_ends}
 use Rattle.smol_config.proofs.Held.{placed}
 use Rattle.smol_config.proofs.Reading.{read_from-next, read_from-refused}
@@ -83,7 +77,7 @@ surface_opens tables before line is h =
     ap (λ (one : Statement). placed_in one before line) is
     ∙ placed (Block StartSurface) line tables before h
     ∙ ap (say of_blocks) (starts_surface (axes_of before) (blocks_said before) line h.blocks.closed)
-    ∙ ap (λ axes. say of_blocks (with_value (block_name_in axes (surface_names (blocks_said before)) most_surfaces line) (λ name. Ok (opens_surface line.number name)))) (sym h.axes)
+    ∙ ap (λ (known : Looked). say of_blocks (with_value (block_name_in known.axes (surface_names (blocks_said before)) most_surfaces line) (λ name. Ok (opens_surface line.number name)))) (sym h.plain)
     ∙ ap (λ names. say of_blocks (with_value (block_name_in tables.axes names most_surfaces line) (λ name. Ok (opens_surface line.number name)))) (sym h.blocks.surface_names)
     ∙ told (block_name_in tables.axes tables.blocks.surface_names most_surfaces line)
   where
@@ -99,7 +93,7 @@ compartment_opens tables before line is h =
     ap (λ (one : Statement). placed_in one before line) is
     ∙ placed (Block StartCompartment) line tables before h
     ∙ ap (say of_blocks) (starts_compartment (axes_of before) (blocks_said before) line h.blocks.closed)
-    ∙ ap (λ axes. say of_blocks (with_value (block_name_in axes (compartment_names (blocks_said before)) most_compartments line) (λ name. Ok (opens_compartment line.number name)))) (sym h.axes)
+    ∙ ap (λ (known : Looked). say of_blocks (with_value (block_name_in known.axes (compartment_names (blocks_said before)) most_compartments line) (λ name. Ok (opens_compartment line.number name)))) (sym h.plain)
     ∙ ap (λ names. say of_blocks (with_value (block_name_in tables.axes names most_compartments line) (λ name. Ok (opens_compartment line.number name)))) (sym h.blocks.compartment_names)
     ∙ told (block_name_in tables.axes tables.blocks.compartment_names most_compartments line)
   where
@@ -132,8 +126,8 @@ module _ (tables : Tables) (before : List Said) (h : Holds tables before) (sound
         → line_in now one ≡ with_value (in_surface_block surface_known said one) (λ found. Ok (surface_told surface_known (length tables.blocks.surface_names) said found))
     unfolding line_in
     surface_judged now said one w =
-        surface_line surface_known (length tables.blocks.surface_names) line.number said now one (ap needs_dim (sym w.axes) ∙ given) (sym w.species) (sym (ap (λ (panels : List ThePanel). length panels) w.panels))
-        (sym (ap (λ (surfaces : List TheSurface). length surfaces) w.surfaces) ∙ h.blocks_kept.surfaces) w.block (statement_of (word_at one 0))
+        surface_line surface_known (length tables.blocks.surface_names) line.number said now one (ap (λ (known : Looked). needs_dim known.axes) (sym w.plain) ∙ given) (ap (λ (known : Looked). known.species) (sym w.plain)) (ap (λ (lists : Lists). length lists.panels) (sym w.lists))
+        (ap (λ (lists : Lists). length lists.surfaces) (sym w.lists) ∙ h.blocks_kept.surfaces) w.block (statement_of (word_at one 0))
 
     surface_by : Outcome (Gives AddsSurface tables) before (drop at all) all
         (with_value (block_from (in_surface_block surface_known) line.number [] (at + 1) (drop (at + 1) all)) (λ read. Ok (surface_draft surface_known name (length tables.blocks.surface_names) read.0, read.1)))
@@ -162,7 +156,7 @@ module _ (tables : Tables) (before : List Said) (h : Holds tables before) (sound
         → line_in now one ≡ with_value (in_compartment_block tables.axes tables.blocks.surface_names said one) (λ found. Ok (compartment_told said found))
     unfolding line_in
     compartment_judged now said one w =
-        compartment_line tables.axes tables.blocks.surface_names line.number said now one (sym w.axes) (sym w.surface_names) w.block (statement_of (word_at one 0))
+        compartment_line tables.axes tables.blocks.surface_names line.number said now one (ap (λ (known : Looked). known.axes) (sym w.plain)) (ap (λ (lists : Lists). lists.surface_names) (sym w.lists)) w.block (statement_of (word_at one 0))
 
     compartment_by : Outcome (Gives AddsCompartment tables) before (drop at all) all
         (with_value (block_from (in_compartment_block tables.axes tables.blocks.surface_names) line.number [] (at + 1) (drop (at + 1) all)) (λ read. Ok (compartment_draft name read.0, read.1)))

@@ -1,9 +1,8 @@
 -- Reading a block as a whole is reading its lines one after the other.
-use Rattle.std.proofs.Common.{◌≡◌, ◌+◌, ◌∷◌, [], ℕ, Bool, true, false, List, drop, Option, None, Some, Result, Ok, Err, refl, sym, ap, ◌∙◌, subst}
+use Rattle.std.proofs.Common.{◌≡◌, ◌+◌, ◌∷◌, [], ℕ, true, List, drop, Some, Result, Ok, Err, refl, sym, ap, ◌∙◌, subst}
 use Rattle.std.proofs.lemmas.List.{drop-drop}
 use Rattle.smol_text.specs.Reading.{Stated}
 use Rattle.smol_types.specs.declared.fault.Kind.{Kind}
-use Rattle.smol_types.specs.declared.fault.Kind.TheVariants as kind
 use Rattle.smol_line.specs.Checks.{with_value}
 use Rattle.smol_line.specs.Fault.{Fault, at_line, fault_at}
 use Rattle.smol_blocks.specs.Blocks.{block_of, opening_line}

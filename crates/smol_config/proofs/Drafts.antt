@@ -1,5 +1,5 @@
 -- The draft that the tables make is what the lines say, and its tests are those of the whole file.
-use Rattle.std.proofs.Common.{◌≡◌, ◌+◌, ◌≤◌, ◌∷◌, length, suc, ℕ, Bool, true, false, ℤ, pos, nat_le, IfSome, unsigned_abs, to_z, of_z, w64, arith, List, [], Option, None, Some, Err, unwrap_or, refl, ap, ◌∙◌}
+use Rattle.std.proofs.Common.{◌≡◌, ◌+◌, ◌≤◌, ◌∷◌, length, suc, ℕ, Bool, true, false, ℤ, pos, nat_le, IfSome, unsigned_abs, to_z, of_z, w64, arith, List, [], Option, None, Some, Result, Err, unwrap_or, refl, sym, ap, ◌∙◌}
 use Rattle.std.specs.List.{list_all}
 use Rattle.std.proofs.lemmas.Int.{ints}
 use Rattle.smol_types.specs.declared.draft.Draft.{Draft}
@@ -18,24 +18,25 @@ use Rattle.smol_config.specs.MaxMol.{limit_of}
 use Rattle.smol_config.specs.Reactions.{reactions_said}
 use Rattle.smol_config.specs.Species.{species_of}
 use Rattle.smol_config.specs.Content.{content_of, species_from, started}
+use Rattle.smol_config.specs.Looked.{Looked}
 use Rattle.smol_config.specs.Tables.{Holds, drafted, species_made}
-use Rattle.smol_config.specs.Whole.{bounded, has_chances, has_difstep, has_few_steps}
+use Rattle.smol_config.specs.Whole.{bounded, has_chances, has_difstep, has_few_steps, needed_from, needed_in}
 use Rattle.smol_config.proofs.SpeciesNames.{species_are}
 use Rattle.smol_config.proofs.WholeSound.{length-species_from}
 
 module _ (needed : Needed) (tables : Tables) (before : List Said) (h : Holds tables before) where
   pub species_held : species_made needed.step tables.species.motions.items 0 tables.species.names ≡ species_from needed.step before 0 (species_of before)
-  species_held = species_are needed.step before tables.species.motions.items h.motions 0 tables.species.names ∙ ap (species_from needed.step before 0) h.species
+  species_held = species_are needed.step before tables.species.motions.items (λ number. ap (λ (known : Looked). known.motions number) h.plain) 0 tables.species.names ∙ ap (λ (known : Looked). species_from needed.step before 0 known.species) h.plain
 
   -- what the tables make is what the lines say
-  pub drafted_is : (parts : Parts) → parts.start ≡ started tables.start → parts.species ≡ species_made needed.step tables.species.motions.items 0 tables.species.names → parts.walls ≡ walls_of tables.axes → parts.outputs ≡ tables.outputs → drafted needed parts tables ≡ content_of needed before
+  pub drafted_is : (parts : Parts) → parts.start ≡ started tables.times.start → parts.species ≡ species_made needed.step tables.species.motions.items 0 tables.species.names → parts.walls ≡ walls_of tables.axes → parts.outputs ≡ tables.outputs → drafted needed parts tables ≡ content_of needed before
   unfolding content_of
   drafted_is parts start made walled written =
-      let start = start ∙ ap started h.start in
+      let start = start ∙ ap (λ (known : Looked). started known.times.start) h.plain in
       let species = made ∙ species_held in
-      let walls = walled ∙ ap walls_of h.axes in
-      let outputs = written ∙ h.outputs in
-      λ i. record {
+      let walls = walled ∙ ap (λ (known : Looked). walls_of known.axes) h.plain in
+      let outputs = written ∙ ap (λ (known : Looked). known.outputs) h.plain in
+      λ i. let known : Looked = h.plain i in record {
         dims = needed.dims;
         species = species i;
         walls = walls i;
@@ -43,14 +44,14 @@ module _ (needed : Needed) (tables : Tables) (before : List Said) (h : Holds tab
         panels = h.blocks.panels i;
         compartments = h.blocks.compartments i;
         reactions = h.reactions.list i;
-        placings = h.placings i;
-        commands = h.commands i;
+        placings = known.placings;
+        commands = known.commands;
         outputs = outputs i;
         start = start i;
         stop = needed.stop;
         step = needed.step;
-        max_mol = limit_of (h.max_mol i);
-        seed = h.seed i;
+        max_mol = limit_of known.max_mol;
+        seed = known.seed;
       }
 
 pub length-species_made : (time : ℤ) (motions : List Motion) (number : ℕ) (names : List (List ℕ)) → length (species_made time motions number names) ≡ length names
@@ -61,7 +62,7 @@ length-species_made time motions number (name ∷ names) = ap suc (length-specie
 pub shared_held : (needed : Needed) (tables : Tables) (before : List Said) → Holds tables before → are_shared (length tables.species.names) tables.reactions.list.items tables.reactions.chances.items ≡ has_chances (chances_of (reactions_said before)) (content_of needed before)
 unfolding content_of
 shared_held needed tables before h =
-    rw (length-species_from needed.step before 0 (species_of before), h.species, h.reactions.list, h.reactions.chances) refl
+    rw (length-species_from needed.step before 0 (species_of before), ap (λ (known : Looked). known.species) h.plain, h.reactions.list, h.reactions.chances) refl
 
 -- too many steps are told first
 pub bounded-many : (chances : List (Option ℕ)) (draft : Draft) → has_few_steps draft ≡ false → bounded chances draft ≡ Err TooMany
@@ -88,14 +89,18 @@ start_within None within = omega arith
 start_within (Some time) within = within
 
 -- the steps that the tables make are those of the content
-pub few_steps : (needed : Needed) (tables : Tables) (before : List Said) (start : ℤ) (count : ℕ) → Holds tables before → start ≡ unwrap_or tables.start (pos 0) → IfSome tables.start (λ time. unsigned_abs time ≤ 1000000000000000000) → unsigned_abs needed.stop ≤ 1000000000000000000 → unsigned_abs needed.step ≤ 1000000000000000000
+pub few_steps : (needed : Needed) (tables : Tables) (before : List Said) (start : ℤ) (count : ℕ) → Holds tables before → start ≡ unwrap_or tables.times.start (pos 0) → IfSome tables.times.start (λ time. unsigned_abs time ≤ 1000000000000000000) → unsigned_abs needed.stop ≤ 1000000000000000000 → unsigned_abs needed.step ≤ 1000000000000000000
     → count ≡ last_step (to_z w64 (of_z w64 start)) (to_z w64 (of_z w64 needed.stop)) (to_z w64 (of_z w64 needed.step)) → nat_le count 4000000 ≡ has_few_steps (content_of needed before)
 unfolding content_of
 few_steps needed tables before start count h is within stop step counted =
-    let from = ap (λ (t : ℤ). to_z w64 (of_z w64 t)) is ∙ time_kept (unwrap_or tables.start (pos 0)) (start_within tables.start within) ∙ ap started h.start in
+    let from = ap (λ (t : ℤ). to_z w64 (of_z w64 t)) is ∙ time_kept (unwrap_or tables.times.start (pos 0)) (start_within tables.times.start within) ∙ ap (λ (known : Looked). started known.times.start) h.plain in
     let to = time_kept needed.stop stop in
     let by = time_kept needed.step step in
     ap (λ n. nat_le n 4000000) (counted ∙ (λ j. last_step (from j) (to j) (by j)))
+
+-- what the tables give of what a file can't do without is what the lines say of it
+pub needed_held : (tables : Tables) (before : List Said) → Holds tables before → (found : Result Needed Kind) → found ≡ needed_from tables.axes tables.times → needed_in before ≡ found
+needed_held tables before h found is = sym (is ∙ ap (λ (known : Looked). needed_from known.axes known.times) h.plain)
 
 -- a test that fails tells its fault
 pub unless_fails : (test : Bool) (kind why : Kind) → Some kind ≡ unless test why → (test ≡ false) × (kind ≡ why)

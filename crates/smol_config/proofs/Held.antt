@@ -1,5 +1,5 @@
 -- The tables with what one line more says.
-use Rattle.std.proofs.Common.{◌≡◌, ◌<◌, ◌≢◌, ◌++◌, ◌∷◌, [], ◌&&◌, true, false, ℕ, zero, suc, ℤ, List, length, Some, Result, Ok, Err, OnOk, nat_le, nat_lt, slice_index_or, arith, refl, sym, ap, ◌∙◌, subst, if◌then◌else◌}
+use Rattle.std.proofs.Common.{◌≡◌, ◌<◌, ◌≢◌, ◌++◌, ◌∷◌, [], ◌&&◌, true, false, ℕ, zero, suc, List, Option, Some, subst, Result, Ok, Err, OnOk, nat_le, nat_lt, slice_index_or, arith, refl, sym, ap, ◌∙◌, if◌then◌else◌}
 use Rattle.std.specs.Result.{IsOkAnd}
 use Rattle.smol_text.specs.Reading.{Stated}
 use Rattle.smol_types.specs.declared.command.Command.{Command}
@@ -17,8 +17,6 @@ use Rattle.smol_line.specs.SpeciesWord.{is_chosen}
 use Rattle.smol_blocks.specs.declared.block_statement.BlockStatement.{BlockStatement}
 use Rattle.smol_blocks.specs.declared.block_statement.BlockStatement.TheVariants.{StartSurface, InSurface, EndSurface, StartCompartment, Surface, Point, EndCompartment}
 use Rattle.smol_blocks.specs.Blocks.{block_line_in, bound_said, compartment_names, end_compartment_said, end_surface_in, in_surface_in, is_outside, point_said}
-use Rattle.smol_cmd.specs.Cmd.{cmd_in}
-use Rattle.smol_cmd.specs.Known.{known}
 use Rattle.smol_cmd.specs.OutputFiles.{output_files_in}
 use Rattle.smol_reactions.specs.declared.reactions.Reactions.{Reactions}
 use Rattle.smol_reactions.specs.ReactionSaid.{ReactionSaid}
@@ -28,7 +26,7 @@ use Rattle.smol_config.specs.declared.species_table.SpeciesTable.{SpeciesTable}
 use Rattle.smol_blocks.specs.declared.statement.Statement.{Statement}
 use Rattle.smol_blocks.specs.declared.statement.Statement.TheVariants as statement
 use Rattle.smol_config.specs.declared.tables.Tables.{Tables}
-use Rattle.smol_config.specs.Said.{Said, passed_over, axes, names, moves, starts, stops, steps, limits, seeds, walls, places, of_reactions, of_blocks, writes, performs}
+use Rattle.smol_config.specs.Said.{Said, passed_over, names, moves, walls, places, of_reactions, of_blocks, writes, performs}
 use Rattle.smol_config.specs.Species.{further_words, species_in, species_of}
 use Rattle.smol_config.specs.Motion.{still}
 use Rattle.smol_config.specs.Reader.{placed_in, statement_in}
@@ -36,10 +34,8 @@ use Rattle.smol_blocks.specs.Statement.{may_stand}
 use Rattle.smol_config.specs.Axes.{axes_of}
 use Rattle.smol_config.specs.Reactions.{reactions_said}
 use Rattle.smol_config.specs.Blocks.{blocks_said, stands_outside}
-use Rattle.smol_config.specs.Mol.{mol_in}
-use Rattle.smol_config.specs.CompartmentMol.{compartment_mol_in}
-use Rattle.smol_config.specs.Commands.{commands_of, known_before}
-use Rattle.smol_config.specs.Tables.{Holds, Reads, with_bounds}
+use Rattle.smol_config.specs.Looked.{Looked, looked_up}
+use Rattle.smol_config.specs.Tables.{Holds, Keeps, Reads, seen, with_bounds}
 
 -- the walls of one axis more
 axes_with : (before : List Said) (axis : ℕ) (new : Bounds) → axis < 3 → with_bounds axis new (axes_of before) ≡ axes_of (walls axis new ∷ before)
@@ -48,214 +44,59 @@ axes_with before (suc zero) new within = refl
 axes_with before (suc (suc zero)) new within = refl
 axes_with before (suc (suc (suc axis))) new within = absurd (omega arith)
 
+-- a line that is passed over
 pub passed_over_held : (tables : Tables) (before : List Said) → Holds tables before → Holds tables (passed_over ∷ before)
-passed_over_held tables before h = record {
-  axes = h.axes;
-  species = h.species;
-  motions = h.motions;
-  start = h.start;
-  stop = h.stop;
-  step = h.step;
-  max_mol = h.max_mol;
-  seed = h.seed;
-  placings = h.placings;
-  reactions = h.reactions;
-  kept = h.kept;
-  blocks = h.blocks;
-  blocks_kept = h.blocks_kept;
-  outputs = h.outputs;
-  commands = h.commands;
-}
+passed_over_held tables before h = record { plain = h.plain; groups = h.groups }
 
-pub axes_held : (tables : Tables) (before : List Said) (dims : ℕ) → Holds tables before → Holds (record tables { axes = record tables.axes { dims = Some dims } }) (axes dims ∷ before)
-axes_held tables before dims h = record {
-  axes = ap (λ (old : Axes). let new : Axes = record old { dims = Some dims } in new) h.axes;
-  species = h.species;
-  motions = h.motions;
-  start = h.start;
-  stop = h.stop;
-  step = h.step;
-  max_mol = h.max_mol;
-  seed = h.seed;
-  placings = h.placings;
-  reactions = h.reactions;
-  kept = h.kept;
-  blocks = h.blocks;
-  blocks_kept = h.blocks_kept;
-  outputs = h.outputs;
-  commands = h.commands;
-}
+-- how the reading of a line ends that says one value, where its rule asks for plain matters and for the names of compartments alone
+module _ {T : Type 0} (one : Statement) (line : Stated) (old new : Tables) (said : T → Said) (rule : Looked → List (List ℕ) → Result T Kind)
+    (is : (before : List Said) → statement_in one before line ≡ say said (rule (looked_up before) (compartment_names (blocks_said before)))) where
+  by_tables : (before : List Said) → Holds old before → statement_in one before line ≡ say said (rule (seen old) old.blocks.compartment_names)
+  by_tables before h = is before ∙ (λ i. say said (rule (sym h.plain i) (sym h.blocks.compartment_names i)))
 
-pub start_held : (tables : Tables) (before : List Said) (time : ℤ) → Holds tables before → Holds (record tables { start = Some time }) (starts time ∷ before)
-start_held tables before time h = record {
-  axes = h.axes;
-  species = h.species;
-  motions = h.motions;
-  start = refl;
-  stop = h.stop;
-  step = h.step;
-  max_mol = h.max_mol;
-  seed = h.seed;
-  placings = h.placings;
-  reactions = h.reactions;
-  kept = h.kept;
-  blocks = h.blocks;
-  blocks_kept = h.blocks_kept;
-  outputs = h.outputs;
-  commands = h.commands;
-}
+  pub value_refused : (kind : Kind) → rule (seen old) old.blocks.compartment_names ≡ Err kind → (before : List Said) → Holds old before → statement_in one before line ≡ Err kind
+  value_refused kind fails before h = by_tables before h ∙ ap (say said) fails
 
-pub stop_held : (tables : Tables) (before : List Said) (time : ℤ) → Holds tables before → Holds (record tables { stop = Some time }) (stops time ∷ before)
-stop_held tables before time h = record {
-  axes = h.axes;
-  species = h.species;
-  motions = h.motions;
-  start = h.start;
-  stop = refl;
-  step = h.step;
-  max_mol = h.max_mol;
-  seed = h.seed;
-  placings = h.placings;
-  reactions = h.reactions;
-  kept = h.kept;
-  blocks = h.blocks;
-  blocks_kept = h.blocks_kept;
-  outputs = h.outputs;
-  commands = h.commands;
-}
+  pub value_taken : (value : T) → rule (seen old) old.blocks.compartment_names ≡ Ok value → ((before : List Said) → Holds old before → Holds new (said value ∷ before)) → (before : List Said) → Holds old before → (more : Said) × (statement_in one before line ≡ Ok more) × Holds new (more ∷ before)
+  value_taken value fine more before h = (said value, by_tables before h ∙ ap (say said) fine, more before h)
 
-pub step_held : (tables : Tables) (before : List Said) (time : ℤ) → Holds tables before → Holds (record tables { step = Some time }) (steps time ∷ before)
-step_held tables before time h = record {
-  axes = h.axes;
-  species = h.species;
-  motions = h.motions;
-  start = h.start;
-  stop = h.stop;
-  step = refl;
-  max_mol = h.max_mol;
-  seed = h.seed;
-  placings = h.placings;
-  reactions = h.reactions;
-  kept = h.kept;
-  blocks = h.blocks;
-  blocks_kept = h.blocks_kept;
-  outputs = h.outputs;
-  commands = h.commands;
-}
+  -- the same by the result of what read the line
+  pub value_read : {U : Type 0} (result : Result U Refusal) → OnOk result ((value : T) × (rule (seen old) old.blocks.compartment_names ≡ Ok value) × ((before : List Said) → Holds old before → Holds new (said value ∷ before)))
+      → ((kind : Kind) → result ≡ Err (At kind) → rule (seen old) old.blocks.compartment_names ≡ Err kind) → Reads (statement_in one) line old new result
+  value_read (Ok done) accepted refused = value_taken accepted.0 accepted.1 accepted.2
+  value_read (Err (At kind)) accepted refused = value_refused kind (refused kind refl)
+  value_read (Err OutOfMemory) accepted refused = tt
 
-pub limit_held : (tables : Tables) (before : List Said) (count : ℕ) → Holds tables before → Holds (record tables { max_mol = Some count }) (limits count ∷ before)
-limit_held tables before count h = record {
-  axes = h.axes;
-  species = h.species;
-  motions = h.motions;
-  start = h.start;
-  stop = h.stop;
-  step = h.step;
-  max_mol = refl;
-  seed = h.seed;
-  placings = h.placings;
-  reactions = h.reactions;
-  kept = h.kept;
-  blocks = h.blocks;
-  blocks_kept = h.blocks_kept;
-  outputs = h.outputs;
-  commands = h.commands;
-}
-
-pub seed_held : (tables : Tables) (before : List Said) (seed : ℕ) → Holds tables before → Holds (record tables { seed = Some seed }) (seeds seed ∷ before)
-seed_held tables before seed h = record {
-  axes = h.axes;
-  species = h.species;
-  motions = h.motions;
-  start = h.start;
-  stop = h.stop;
-  step = h.step;
-  max_mol = h.max_mol;
-  seed = refl;
-  placings = h.placings;
-  reactions = h.reactions;
-  kept = h.kept;
-  blocks = h.blocks;
-  blocks_kept = h.blocks_kept;
-  outputs = h.outputs;
-  commands = h.commands;
-}
+-- the same where the value stands once, and this is what the tables are with it
+pub once_read : {T U : Type 0} (one : Statement) (line : Stated) (tables : Tables) (put : Option T → Tables) (said : T → Said) (rule : Looked → Result T Kind) (given : Result T Kind) (old new : Option T) (result : Result U Refusal)
+    → ((before : List Said) → statement_in one before line ≡ say said (rule (looked_up before))) → given ≡ rule (seen tables) → Keeps given old new result
+    → ((value : T) (before : List Said) → Holds tables before → Holds (put (Some value)) (said value ∷ before)) → Reads (statement_in one) line tables (put new) result
+once_read {T = T} one line tables put said rule (Ok value) old new (Ok done) is judged keeps more =
+    value_taken one line tables (put new) said (λ known compartments. rule known) is value (sym judged) (λ before h. subst (λ (kept : Option T). Holds (put kept) (said value ∷ before)) (sym keeps.0) (more value before h))
+once_read one line tables put said rule (Ok value) old new (Err refusal) is judged keeps more = let none = keeps.1 in absurd cc
+once_read one line tables put said rule (Err kind) old new result is judged keeps more =
+    rw keeps.1 (value_refused one line tables (put new) said (λ known compartments. rule known) is kind (sym judged))
 
 pub walls_held : (tables : Tables) (before : List Said) (axis : ℕ) (new : Bounds) (all : Axes) → axis < 3 → all ≡ with_bounds axis new tables.axes → Holds tables before → Holds (record tables { axes = all }) (walls axis new ∷ before)
-walls_held tables before axis new all within added h = record {
-  axes = added ∙ ap (with_bounds axis new) h.axes ∙ axes_with before axis new within;
-  species = h.species;
-  motions = h.motions;
-  start = h.start;
-  stop = h.stop;
-  step = h.step;
-  max_mol = h.max_mol;
-  seed = h.seed;
-  placings = h.placings;
-  reactions = h.reactions;
-  kept = h.kept;
-  blocks = h.blocks;
-  blocks_kept = h.blocks_kept;
-  outputs = h.outputs;
-  commands = h.commands;
-}
+walls_held tables before axis new all within added h =
+    let axes = added ∙ ap (λ (old : Looked). with_bounds axis new old.axes) h.plain ∙ axes_with before axis new within in
+    record { plain = λ i. let old : Looked = h.plain i in record old { axes = axes i }; groups = h.groups }
 
 pub placings_held : (tables : Tables) (before : List Said) (placing : Placing) (all : List Placing) → all ≡ tables.placings ++ placing ∷ [] → Holds tables before → Holds (record tables { placings = all }) (places placing ∷ before)
-placings_held tables before placing all added h = record {
-  axes = h.axes;
-  species = h.species;
-  motions = h.motions;
-  start = h.start;
-  stop = h.stop;
-  step = h.step;
-  max_mol = h.max_mol;
-  seed = h.seed;
-  placings = added ∙ ap (λ old. old ++ placing ∷ []) h.placings;
-  reactions = h.reactions;
-  kept = h.kept;
-  blocks = h.blocks;
-  blocks_kept = h.blocks_kept;
-  outputs = h.outputs;
-  commands = h.commands;
-}
+placings_held tables before placing all added h =
+    let placings = added ∙ ap (λ (old : Looked). old.placings ++ placing ∷ []) h.plain in
+    record { plain = λ i. let old : Looked = h.plain i in record old { placings = placings i }; groups = h.groups }
 
 pub commands_held : (tables : Tables) (before : List Said) (command : Command) (all : List Command) → all ≡ tables.commands ++ command ∷ [] → Holds tables before → Holds (record tables { commands = all }) (performs command ∷ before)
-commands_held tables before command all added h = record {
-  axes = h.axes;
-  species = h.species;
-  motions = h.motions;
-  start = h.start;
-  stop = h.stop;
-  step = h.step;
-  max_mol = h.max_mol;
-  seed = h.seed;
-  placings = h.placings;
-  reactions = h.reactions;
-  kept = h.kept;
-  blocks = h.blocks;
-  blocks_kept = h.blocks_kept;
-  outputs = h.outputs;
-  commands = added ∙ ap (λ old. old ++ command ∷ []) h.commands;
-}
+commands_held tables before command all added h =
+    let commands = added ∙ ap (λ (old : Looked). old.commands ++ command ∷ []) h.plain in
+    record { plain = λ i. let old : Looked = h.plain i in record old { commands = commands i }; groups = h.groups }
 
 pub motions_held : (tables : Tables) (before : List Said) (chosen : Chosen) (motion : Motion) (species : SpeciesTable) → species.names ≡ tables.species.names → ((number : ℕ) → slice_index_or species.motions.items number still ≡ (if nat_le chosen.first number && nat_lt number chosen.end then motion else slice_index_or tables.species.motions.items number still)) → Holds tables before → Holds (record tables { species = species }) (moves chosen motion ∷ before)
-motions_held tables before chosen motion species same moved h = record {
-  axes = h.axes;
-  species = same ∙ h.species;
-  motions = λ number. moved number ∙ ap (λ old. if is_chosen number chosen then motion else old) (h.motions number);
-  start = h.start;
-  stop = h.stop;
-  step = h.step;
-  max_mol = h.max_mol;
-  seed = h.seed;
-  placings = h.placings;
-  reactions = h.reactions;
-  kept = h.kept;
-  blocks = h.blocks;
-  blocks_kept = h.blocks_kept;
-  outputs = h.outputs;
-  commands = h.commands;
-}
+motions_held tables before chosen motion species same moved h =
+    let names = same ∙ ap (λ (old : Looked). old.species) h.plain in
+    let motions = λ (number : ℕ). moved number ∙ ap (λ (old : Looked). if is_chosen number chosen then motion else old.motions number) h.plain in
+    record { plain = λ i. let old : Looked = h.plain i in record old { species = names i; motions = λ number. motions number i }; groups = h.groups }
 
 -- how the reading of a line on reactions ends
 pub reactions_read : {T : Type 0} (one : Statement) (line : Stated) (tables : Tables) (reactions : Reactions) (result : Result T Refusal) (rule : List Said → List ReactionSaid → Result ReactionSaid Kind)
@@ -267,23 +108,7 @@ reactions_read one line tables reactions (Ok done) rule is reads kept = λ befor
     let read = reads before h (reactions_said before) h.reactions in (
       of_reactions read.0,
       is before ∙ ap (say of_reactions) read.1,
-      record {
-        axes = h.axes;
-        species = h.species;
-        motions = h.motions;
-        start = h.start;
-        stop = h.stop;
-        step = h.step;
-        max_mol = h.max_mol;
-        seed = h.seed;
-        placings = h.placings;
-        reactions = read.2;
-        kept = kept;
-        blocks = h.blocks;
-        blocks_kept = h.blocks_kept;
-        outputs = h.outputs;
-        commands = h.commands;
-      },
+      record { plain = h.plain; groups = record { reactions = read.2; kept = kept; blocks = h.blocks; blocks_kept = h.blocks_kept } },
     )
 reactions_read one line tables reactions (Err (At kind)) rule is reads kept = λ before h. is before ∙ ap (say of_reactions) (reads before h (reactions_said before) h.reactions)
 reactions_read one line tables reactions (Err OutOfMemory) rule is reads kept = tt
@@ -297,33 +122,23 @@ more_of (Err kind) new old is = absurd is
 pub species_reads : {T : Type 0} (line : Stated) (tables : Tables) (species : SpeciesTable) (result : Result T Refusal)
     → OnOk result (species.names ≡ tables.species.names ++ further_words line)
     → OnOk result ((number : ℕ) → slice_index_or species.motions.items number still ≡ slice_index_or tables.species.motions.items number still)
-    → OnOk result ((before : List Said) → tables.species.names ≡ species_of before → species_in before line ≡ Ok (further_words line))
-    → ((kind : Kind) (before : List Said) → result ≡ Err (At kind) → tables.species.names ≡ species_of before → species_in before line ≡ Err kind)
+    → OnOk result (species_in tables.species.names line ≡ Ok (further_words line))
+    → ((kind : Kind) → result ≡ Err (At kind) → species_in tables.species.names line ≡ Err kind)
     → Reads (statement_in statement.Species) line tables (record tables { species = species }) result
 unfolding statement_in
-species_reads line tables species (Ok done) added same accepted refused = λ before h. (
-  names (further_words line),
-  ap (say names) (accepted before h.species),
-  record {
-    axes = h.axes;
-    species = added ∙ ap (λ old. old ++ further_words line) h.species;
-    motions = λ number. same number ∙ h.motions number;
-    start = h.start;
-    stop = h.stop;
-    step = h.step;
-    max_mol = h.max_mol;
-    seed = h.seed;
-    placings = h.placings;
-    reactions = h.reactions;
-    kept = h.kept;
-    blocks = h.blocks;
-    blocks_kept = h.blocks_kept;
-    outputs = h.outputs;
-    commands = h.commands;
-  },
-)
-species_reads line tables species (Err (At kind)) added same accepted refused = λ before h. ap (say names) (refused kind before refl h.species)
-species_reads line tables species (Err OutOfMemory) added same accepted refused = tt
+species_reads line tables species result added same accepted refused =
+    value_read statement.Species line tables (record tables { species = species }) names (λ known compartments. species_in known.species line) (λ before. refl) result (taken result added same accepted) refused
+  where
+    more : (before : List Said) → species.names ≡ tables.species.names ++ further_words line → ((number : ℕ) → slice_index_or species.motions.items number still ≡ slice_index_or tables.species.motions.items number still) → Holds tables before → Holds (record tables { species = species }) (names (further_words line) ∷ before)
+    more before added same h =
+        let all = added ∙ ap (λ (old : Looked). old.species ++ further_words line) h.plain in
+        let motions = λ (number : ℕ). same number ∙ ap (λ (old : Looked). old.motions number) h.plain in
+        record { plain = λ i. let old : Looked = h.plain i in record old { species = all i; motions = λ number. motions number i }; groups = h.groups }
+
+    taken : {T : Type 0} (result : Result T Refusal) → OnOk result (species.names ≡ tables.species.names ++ further_words line) → OnOk result ((number : ℕ) → slice_index_or species.motions.items number still ≡ slice_index_or tables.species.motions.items number still) → OnOk result (species_in tables.species.names line ≡ Ok (further_words line))
+        → OnOk result ((value : List (List ℕ)) × (species_in tables.species.names line ≡ Ok value) × ((before : List Said) → Holds tables before → Holds (record tables { species = species }) (names value ∷ before)))
+    taken (Ok done) added same accepted = (further_words line, accepted, λ before h. more before added same h)
+    taken (Err refusal) added same accepted = tt
 
 -- how the reading of an `output_files` line ends
 pub outputs_read : {T : Type 0} (line : Stated) (tables : Tables) (outputs : List (List ℕ)) (result : Result T Refusal)
@@ -331,54 +146,20 @@ pub outputs_read : {T : Type 0} (line : Stated) (tables : Tables) (outputs : Lis
     → ((kind : Kind) → result ≡ Err (At kind) → output_files_in tables.outputs line ≡ Err kind)
     → Reads (statement_in statement.OutputFiles) line tables (record tables { outputs = outputs }) result
 unfolding statement_in
-outputs_read line tables outputs (Ok done) accepted refused = λ before h.
-    let more = more_of (output_files_in tables.outputs line) outputs tables.outputs accepted in (
-      writes more.0,
-      ap (say writes) (ap (λ known. output_files_in known line) (sym h.outputs) ∙ more.1),
-      record {
-        axes = h.axes;
-        species = h.species;
-        motions = h.motions;
-        start = h.start;
-        stop = h.stop;
-        step = h.step;
-        max_mol = h.max_mol;
-        seed = h.seed;
-        placings = h.placings;
-        reactions = h.reactions;
-        kept = h.kept;
-        blocks = h.blocks;
-        blocks_kept = h.blocks_kept;
-        outputs = more.2 ∙ ap (λ old. old ++ more.0) h.outputs;
-        commands = h.commands;
-      },
-    )
-outputs_read line tables outputs (Err (At kind)) accepted refused = λ before h.
-    ap (say writes) (ap (λ known. output_files_in known line) (sym h.outputs) ∙ refused kind refl)
-outputs_read line tables outputs (Err OutOfMemory) accepted refused = tt
-
--- the rules of other lines, by what the tables hold
-pub mol_rule : (line : Stated) (tables : Tables) (before : List Said) → Holds tables before → mol_in (axes_of before) (species_of before) line ≡ mol_in tables.axes tables.species.names line
-mol_rule line tables before h = λ j. mol_in (sym h.axes j) (sym h.species j) line
-
-pub compartment_mol_rule : (line : Stated) (tables : Tables) (before : List Said) → Holds tables before → compartment_mol_in (axes_of before) (species_of before) (compartment_names (blocks_said before)) line ≡ compartment_mol_in tables.axes tables.species.names tables.blocks.compartment_names line
-compartment_mol_rule line tables before h = λ j. compartment_mol_in (sym h.axes j) (sym h.species j) (sym h.blocks.compartment_names j) line
-
-pub cmd_rule : (line : Stated) (tables : Tables) (before : List Said) (count : ℕ) → count ≡ length tables.commands → Holds tables before → cmd_in (known_before before) (length (commands_of before)) line ≡ cmd_in (known tables.axes tables.species.names tables.blocks.compartment_names tables.outputs) count line
-cmd_rule line tables before count counted h =
-    let counts = sym (counted ∙ ap (λ (all : List Command). length all) h.commands) in
-    λ j. cmd_in (known (sym h.axes j) (sym h.species j) (sym h.blocks.compartment_names j) (sym h.outputs j)) (counts j) line
-
--- how the reading of a `cmd` line ends that isn't taken
-pub cmd_refused : {T : Type 0} (line : Stated) (tables : Tables) (count : ℕ) (refusal : Refusal) (result : Result T Refusal) → result ≡ Err refusal → count ≡ length tables.commands
-    → ((kind : Kind) → refusal ≡ At kind → cmd_in (known tables.axes tables.species.names tables.blocks.compartment_names tables.outputs) count line ≡ Err kind)
-    → Reads (statement_in statement.Cmd) line tables tables result
-unfolding statement_in
-cmd_refused line tables count refusal (Ok done) is counted refused = absurd cc
-cmd_refused line tables count refusal (Err (At kind)) is counted refused = λ before h.
-    let same : refusal ≡ At kind = cc in
-    ap (say performs) (cmd_rule line tables before count counted h ∙ refused kind same)
-cmd_refused line tables count refusal (Err OutOfMemory) is counted refused = tt
+outputs_read line tables outputs result accepted refused =
+    value_read statement.OutputFiles line tables (record tables { outputs = outputs }) writes (λ known compartments. output_files_in known.outputs line) (λ before. refl) result (taken result accepted) refused
+  where
+    taken : {T : Type 0} (result : Result T Refusal) → OnOk result (IsOkAnd (output_files_in tables.outputs line) (λ more. outputs ≡ tables.outputs ++ more))
+        → OnOk result ((value : List (List ℕ)) × (output_files_in tables.outputs line ≡ Ok value) × ((before : List Said) → Holds tables before → Holds (record tables { outputs = outputs }) (writes value ∷ before)))
+    taken (Ok done) accepted =
+        let more = more_of (output_files_in tables.outputs line) outputs tables.outputs accepted in (
+          more.0,
+          more.1,
+          λ before h.
+              let all = more.2 ∙ ap (λ (old : Looked). old.outputs ++ more.0) h.plain in
+              record { plain = λ i. let old : Looked = h.plain i in record old { outputs = all i }; groups = h.groups },
+        )
+    taken (Err refusal) accepted = tt
 
 -- where no block is open any statement may stand
 stands : (one : Statement) → may_stand one true ≡ true

@@ -12,9 +12,10 @@ use Rattle.smol_line.specs.Checks.{with_value}
 use Rattle.smol_line.specs.Fault.{Fault, fault_at, at_line, TellsFault}
 use Rattle.smol_blocks.specs.Blocks.{block_of, opening_line}
 use Rattle.smol_config.specs.Said.{Said}
+use Rattle.smol_config.specs.Looked.{Looked}
 use Rattle.smol_config.specs.Reader.{config_from, line_in, read_from}
 use Rattle.smol_config.specs.declared.tables.Tables.{Tables}
-use Rattle.smol_config.specs.SoFar.{IsSoFar}
+use Rattle.smol_config.specs.SoFar.{IsSoFar, the_axes, the_outputs, the_species}
 use Rattle.smol_config.specs.Tables.{AreReady, Holds}
 use Rattle.smol_blocks.specs.Told.{told_at}
 use Rattle.smol_config.specs.Whole.{behind_blocks, closed_in, whole_in}
@@ -52,11 +53,11 @@ whole_open before line some = ap (λ open_line. behind_blocks open_line (closed_
 -- tables that hold what lines without a fault say are ready for a line more
 pub ready : (tables : Tables) (before : List Said) → Holds tables before → IsSoFar before → AreReady tables
 ready tables before h sound = record {
-  axes = subst AreAxes (sym h.axes) sound.axes;
-  species = subst (λ (names : List (List ℕ)). length names ≤ 256) (sym h.species) sound.species;
+  axes = subst (λ (known : Looked). AreAxes known.axes) (sym h.plain) (sound the_axes);
+  species = subst (λ (known : Looked). length known.species ≤ 256) (sym h.plain) (sound the_species);
   reactions = h.kept;
   blocks = h.blocks_kept;
-  outputs = subst (λ (names : List (List ℕ)). length names ≤ 64) (sym h.outputs) sound.outputs;
+  outputs = subst (λ (known : Looked). length known.outputs ≤ 64) (sym h.plain) (sound the_outputs);
 }
 
 -- where the lines end, what comes of the tables is what all lines say

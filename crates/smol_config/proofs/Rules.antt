@@ -21,34 +21,32 @@ use Rattle.smol_line.specs.Axis.{axis_in}
 use Rattle.smol_line.specs.Checks.{unless, once, word_count, passing, with_value}
 use Rattle.smol_line.specs.Coordinate.{coordinate_in}
 use Rattle.smol_line.specs.Length.{micros_in}
+use Rattle.smol_line.specs.LookingBack.{say}
 use Rattle.smol_line.specs.Names.{names_fault}
 use Rattle.smol_line.specs.Numbers.{count_in}
 use Rattle.smol_line.specs.SpeciesWord.{number_in, species_word_in}
 use Rattle.smol_line.specs.Words.{word_at}
 use Rattle.smol_line.proofs.Between.{settled_by, unwalled, lower_wall, upper_wall, coordinate_lies}
-use Rattle.smol_line.proofs.Passing.{passed, valued, holds, not_yet, is_there, said_by, three}
+use Rattle.smol_line.proofs.Passing.{passed, valued, held, holds, not_yet, is_there, said_by, three}
 use Rattle.smol_line.proofs.Ranges.{count_in-low, count_in-high, decimal_in-within, axis_in-within, number_in-within, species_word_in-within}
 use Rattle.smol_blocks.specs.declared.block_statement.BlockStatement.{BlockStatement}
 use Rattle.smol_blocks.specs.Blocks.{BlockSaid, block_line_in, block_of, compartment_names, compartments_of, is_outside}
 use Rattle.smol_blocks.specs.BlocksSound.{AreBlocks}
 use Rattle.smol_blocks.proofs.SoundBlocks.{blocks_keep, compartments_grow, outside_equal}
 use Rattle.smol_cmd.specs.Cmd.{cmd_in}
-use Rattle.smol_cmd.specs.OutputFiles.{output_files_in}
 use Rattle.smol_cmd.proofs.OutputNames.{files_are_few}
 use Rattle.smol_cmd.proofs.Sound.{commands_are_few, commands_are_sound}
-use Rattle.smol_reactions.specs.Statements.{binding_radius_said, product_placement_said, reaction_probability_said, reaction_said}
 use Rattle.smol_reactions.proofs.SoundSaid.{binding_radius_keeps, product_placement_keeps, reaction_keeps, reaction_probability_keeps}
 use Rattle.smol_blocks.specs.declared.statement.Statement.{Statement}
 use Rattle.smol_blocks.specs.declared.statement.Statement.TheVariants as statement
-use Rattle.smol_config.specs.Said.{Said, passed_over, axes, names, moves, starts, stops, steps, limits, seeds, walls, places, of_reactions, of_blocks, writes, performs}
+use Rattle.smol_config.specs.Said.{Said, passed_over, axes, names, moves, starts, stops, steps, of_times, limits, seeds, walls, places, of_reactions, of_blocks, writes, performs}
 use Rattle.smol_blocks.specs.Statement.{may_stand, statement_of}
 use Rattle.smol_config.specs.Axes.{axes_of, dims_of}
+use Rattle.smol_config.specs.Once.{stands_once}
 use Rattle.smol_config.specs.Dim.{dim_in}
 use Rattle.smol_config.specs.Species.{species_of, further_words, species_in, species_fault}
-use Rattle.smol_config.specs.Motion.{difc_in, difstep_in}
-use Rattle.smol_config.specs.Times.{nanos_in, time_start_of, time_stop_of, time_step_of, given_time_in, time_step_in}
+use Rattle.smol_config.specs.Times.{nanos_in, step_in, time_start_of, time_stop_of, time_step_of, given_time_in, time_step_in}
 use Rattle.smol_config.specs.MaxMol.{max_mol_of, max_mol_in}
-use Rattle.smol_config.specs.RandomSeed.{random_seed_in}
 use Rattle.smol_config.specs.Boundaries.{line_letter, bounds_at, bounds_in, boundaries_in}
 use Rattle.smol_config.specs.Mol.{given_in, given_place_in, mol_in}
 use Rattle.smol_config.specs.Reactions.{reactions_said}
@@ -56,18 +54,23 @@ use Rattle.smol_config.specs.Blocks.{blocks_said, stands_outside}
 use Rattle.smol_config.specs.CompartmentMol.{compartment_mol_in}
 use Rattle.smol_config.specs.Commands.{commands_of, known_before, outputs_of}
 use Rattle.smol_config.specs.Reader.{statement_in, line_in}
-use Rattle.smol_config.specs.SoFar.{IsSoFar}
-use Rattle.smol_config.proofs.Kept.{passed_over_kept, axes_kept, names_kept, moves_kept, starts_kept, stops_kept, steps_kept, limits_kept, seeds_kept, walls_kept, places_kept, of_reactions_kept, of_blocks_kept, writes_kept, performs_kept}
+use Rattle.smol_config.specs.SoFar.{IsSoFar, the_axes, the_blocks, the_reactions, the_times}
+use Rattle.smol_config.proofs.Kept.{passed_over_kept, axes_kept, names_kept, moves_kept, times_kept, limits_kept, seeds_kept, walls_kept, places_kept, of_reactions_kept, of_blocks_kept, writes_kept, performs_kept}
+
+-- a value that stands once wasn't given before, and is what its word means
+first_of_once : {T : Type 0} (given : Option T) (meaning : List ℕ → Result T Kind) (line : Stated) (value : T) → stands_once given meaning line ≡ Ok value → (given ≡ None) × (meaning (word_at line 1) ≡ Ok value)
+first_of_once given meaning line value is =
+    let first = passed (once given) (word_count 2 line ∷ []) (meaning (word_at line 1)) value is in
+    let counted = passed (word_count 2 line) [] (meaning (word_at line 1)) value first.1 in
+    (not_yet given first.0, counted.1)
 
 dim_keeps : (before : List Said) (line : Stated) (dims : ℕ) → dim_in (axes_of before) line ≡ Ok dims → IsSoFar before → IsSoFar (axes dims ∷ before)
 unfolding dim_in
 dim_keeps before line dims is h =
-    let value = count_in 1 3 (word_at line 1) in
-    let new = passed (once (dims_of before)) (word_count 2 line ∷ []) value dims is in
-    let counted = passed (word_count 2 line) [] value dims new.1 in
-    axes_kept before dims (not_yet (dims_of before) new.0) (count_in-low 1 3 (word_at line 1) dims counted.1) (count_in-high 1 3 (word_at line 1) dims counted.1) h
+    let given = first_of_once (dims_of before) (λ word. count_in 1 3 word) line dims is in
+    axes_kept before dims given.0 (count_in-low 1 3 (word_at line 1) dims given.1) (count_in-high 1 3 (word_at line 1) dims given.1) h
 
-species_keeps : (before : List Said) (line : Stated) (more : List (List ℕ)) → species_in before line ≡ Ok more → IsSoFar before → IsSoFar (names more ∷ before)
+species_keeps : (before : List Said) (line : Stated) (more : List (List ℕ)) → species_in (species_of before) line ≡ Ok more → IsSoFar before → IsSoFar (names more ∷ before)
 unfolding species_in
 species_keeps before line more is h =
     let enough = unless (nat_le 2 (length (words_of line))) kind.WrongWordCount in
@@ -83,37 +86,35 @@ species_keeps before line more is h =
     names_kept before more (subst (λ (names : List (List ℕ)). length (species_of before) + length names ≤ 256) same fits) h
 
 -- a time is within its range
-time_small : (given : Option ℤ) (line : Stated) (time : ℤ) → given_time_in given line ≡ Ok time → unsigned_abs time ≤ 1000000000000000000
-unfolding given_time_in
-time_small given line time is =
-    let value = nanos_in (word_at line 1) in
-    let a = passed (once given) (word_count 2 line ∷ []) value time is in
-    let b = passed (word_count 2 line) [] value time a.1 in
-    let range = decimal_in-within 9 (negsuc 999999999999999999) (pos 1000000000000000000) (word_at line 1) time b.1 in
+nanos_small : (word : List ℕ) (time : ℤ) → nanos_in word ≡ Ok time → unsigned_abs time ≤ 1000000000000000000
+nanos_small word time is =
+    let range = decimal_in-within 9 (negsuc 999999999999999999) (pos 1000000000000000000) word time is in
     let low = range.0 in
     let high = range.1 in
     omega (arith, ints)
 
-time_step_keeps : (before : List Said) (line : Stated) (time : ℤ) → time_step_in before line ≡ Ok time → IsSoFar before → IsSoFar (steps time ∷ before)
+time_small : (given : Option ℤ) (line : Stated) (time : ℤ) → given_time_in given line ≡ Ok time → unsigned_abs time ≤ 1000000000000000000
+unfolding given_time_in
+time_small given line time is = let by = first_of_once given nanos_in line time is in nanos_small (word_at line 1) time by.1
+
+-- and that of a step is above 0
+step_fits : (given : Option ℤ) (line : Stated) (time : ℤ) → time_step_in given line ≡ Ok time → (unsigned_abs time ≤ 1000000000000000000) × (pos 0 <ℤ time)
 unfolding time_step_in
-time_step_keeps before line time is h =
+step_fits given line time is =
+    let by = first_of_once given step_in line time is in
     let next = λ (time : ℤ). passing (unless (int_lt (pos 0) time) kind.OutOfRange ∷ []) (Ok time) in
-    let found = valued (given_time_in (time_step_of before) line) next time is in
-    let value : Result ℤ Kind = Ok found.0 in
-    let passes = passed (unless (int_lt (pos 0) found.0) kind.OutOfRange) [] value time found.2 in
-    let test = holds (int_lt (pos 0) found.0) kind.OutOfRange passes.0 in
+    let found = valued (nanos_in (word_at line 1)) next time by.1 in
+    let passes = held (int_lt (pos 0) found.0) kind.OutOfRange [] (Ok found.0) time found.2 in
+    let test = passes.0 in
     let above : pos 0 <ℤ found.0 = grind (arith, nat_tests) in
     let same : found.0 ≡ time = cc in
-    let small = time_small (time_step_of before) line found.0 found.1 in
-    subst (λ (t : ℤ). IsSoFar (steps t ∷ before)) same (steps_kept before found.0 small above h)
+    subst (λ (t : ℤ). (unsigned_abs t ≤ 1000000000000000000) × (pos 0 <ℤ t)) same (nanos_small (word_at line 1) found.0 found.1, above)
 
-max_mol_keeps : (before : List Said) (line : Stated) (count : ℕ) → max_mol_in before line ≡ Ok count → IsSoFar before → IsSoFar (limits count ∷ before)
+max_mol_keeps : (before : List Said) (line : Stated) (count : ℕ) → max_mol_in (max_mol_of before) line ≡ Ok count → IsSoFar before → IsSoFar (limits count ∷ before)
 unfolding max_mol_in
 max_mol_keeps before line count is h =
-    let value = count_in 1 1000000 (word_at line 1) in
-    let a = passed (once (max_mol_of before)) (word_count 2 line ∷ []) value count is in
-    let b = passed (word_count 2 line) [] value count a.1 in
-    limits_kept before count (count_in-low 1 1000000 (word_at line 1) count b.1) (count_in-high 1 1000000 (word_at line 1) count b.1) h
+    let given = first_of_once (max_mol_of before) (λ word. count_in 1 1000000 word) line count is in
+    limits_kept before count (count_in-low 1 1000000 (word_at line 1) count given.1) (count_in-high 1 1000000 (word_at line 1) count given.1) h
 
 -- a length is within its range
 length_small : (word : List ℕ) (x : ℤ) → micros_in word ≡ Ok x → unsigned_abs x ≤ 1000000000000
@@ -156,7 +157,7 @@ boundaries_keep before line given is h =
     let new = passed (once (bounds_at axis.0 (axes_of before))) [] all given bounds.2 in
     let has = is_there (dims_of before) kind.BadOrder dims.0 dims.1 in
     let used = axis_in-within dims.0 (word_at line 1) axis.0 axis.1 in
-    let range = rw has at h.axes.dims in
+    let range = rw has at (h the_axes).dims in
     let most = range.1 in
     let fit = bounds_fit line bounds.0 bounds.1 in
     let Q : Option ℕ → Type 0 = λ count. IsSomeAnd count (λ count. axis.0 < count) in
@@ -237,7 +238,7 @@ mol_keeps before line one is h =
     let species = valued (species_word_in (species_of before) (word_at line 2)) (named n.0) one n.2 in
     let at = valued (given_place_in (axes_of before) line) (last n.0 species.0) one species.2 in
     let by = settled_by (axes_of before) dims.0 dims.1 in
-    let lie = coordinates_are (axes_of before) line dims.0 at.0 by.0 by.1 h.axes at.1 in
+    let lie = coordinates_are (axes_of before) line dims.0 at.0 by.0 by.1 (h the_axes) at.1 in
     let made : Placing = placing.Mol n.0 species.0 at.0 in
     let same : made ≡ one = cc in
     subst (λ (one : Placing). IsSoFar (places one ∷ before)) same
@@ -261,7 +262,7 @@ compartment_mol_keeps before line one is outside h =
     let species = valued (species_word_in (species_of before) (word_at line 2)) (inside n.0) one n.2 in
     let compartment = valued (number_in (compartment_names (blocks_said before)) (word_at line 3)) (last n.0 species.0) one species.2 in
     let named = number_in-within (compartment_names (blocks_said before)) (word_at line 3) compartment.0 compartment.1 in
-    let closed = compartments_closed (dims_of before) (blocks_said before) h.blocks outside in
+    let closed = compartments_closed (dims_of before) (blocks_said before) (h the_blocks) outside in
     let made : Placing = placing.InCompartment line.number n.0 species.0 compartment.0 in
     let same : made ≡ one = cc in
     subst (λ (one : Placing). IsSoFar (places one ∷ before)) same
@@ -272,17 +273,23 @@ compartment_mol_keeps before line one is outside h =
 block_keeps : (one : BlockStatement) (before : List Said) (line : Stated) (said : BlockSaid) → block_line_in one (axes_of before) (species_of before) (blocks_said before) line ≡ Ok said → IsSoFar before → IsSoFar (of_blocks said ∷ before)
 block_keeps one before line said is h =
     of_blocks_kept before said (compartments_grow one (axes_of before) (species_of before) (blocks_said before) line said is)
-    (blocks_keep one (axes_of before) (species_of before) (blocks_said before) line said is h.axes h.blocks) h
+    (blocks_keep one (axes_of before) (species_of before) (blocks_said before) line said is (h the_axes) (h the_blocks)) h
 
 cmd_keeps : (before : List Said) (line : Stated) (command : Command) → cmd_in (known_before before) (length (commands_of before)) line ≡ Ok command → stands_outside before ≡ true → IsSoFar before → IsSoFar (performs command ∷ before)
 unfolding cmd_in
 cmd_keeps before line command is outside h =
     let dims = valued (needs_walls (axes_of before)) _ command is in
-    let sound = commands_are_sound (known_before before) (length (commands_of before)) line command is h.axes in
-    let closed = compartments_closed (dims_of before) (blocks_said before) h.blocks outside in
+    let sound = commands_are_sound (known_before before) (length (commands_of before)) line command is (h the_axes) in
+    let closed = compartments_closed (dims_of before) (blocks_said before) (h the_blocks) outside in
     performs_kept before command (is_settled (axes_of before) dims.0 dims.1)
     (commands_are_few (known_before before) (length (commands_of before)) line command is)
     (subst (λ (count : ℕ). IsCommand (length (species_of before)) count (length (outputs_of before)) (walls_of (axes_of before)) command) closed sound) h
+
+-- a line keeps what the value that it says keeps
+by_value : {T : Type 0} (said : T → Said) (rule : Result T Kind) (before : List Said) (one : Said) → say said rule ≡ Ok one → ((value : T) → rule ≡ Ok value → IsSoFar (said value ∷ before)) → IsSoFar (one ∷ before)
+by_value said rule before one is keeps =
+    let by = said_by said rule one is in
+    subst (λ (one : Said). IsSoFar (one ∷ before)) by.2 (keeps by.0 by.1)
 
 -- a line that makes a statement keeps what holds so far
 statement_keeps : (statement : Statement) (before : List Said) (line : Stated) (said : Said) → may_stand statement (stands_outside before) ≡ true → statement_in statement before line ≡ Ok said → IsSoFar before → IsSoFar (said ∷ before)
@@ -291,51 +298,28 @@ statement_keeps statement.PassedOver before line said place is h =
     let same : passed_over ≡ said = cc in subst (λ (s : Said). IsSoFar (s ∷ before)) same (passed_over_kept before h)
 statement_keeps statement.NotInProfile before line said place is h = absurd cc
 statement_keeps statement.Unknown before line said place is h = absurd cc
-statement_keeps statement.Dim before line said place is h =
-    let by = said_by axes (dim_in (axes_of before) line) said is in subst (λ (s : Said). IsSoFar (s ∷ before)) by.2 (dim_keeps before line by.0 by.1 h)
-statement_keeps statement.Species before line said place is h =
-    let by = said_by names (species_in before line) said is in subst (λ (s : Said). IsSoFar (s ∷ before)) by.2 (species_keeps before line by.0 by.1 h)
-statement_keeps statement.Difc before line said place is h =
-    let by = said_by (λ given. moves given.0 given.1) (difc_in before line) said is in subst (λ (s : Said). IsSoFar (s ∷ before)) by.2 (moves_kept before by.0.0 by.0.1 h)
-statement_keeps statement.Difstep before line said place is h =
-    let by = said_by (λ given. moves given.0 given.1) (difstep_in before line) said is in subst (λ (s : Said). IsSoFar (s ∷ before)) by.2 (moves_kept before by.0.0 by.0.1 h)
+statement_keeps statement.Dim before line said place is h = by_value axes _ before said is (λ dims is. dim_keeps before line dims is h)
+statement_keeps statement.Species before line said place is h = by_value names _ before said is (λ more is. species_keeps before line more is h)
+statement_keeps statement.Difc before line said place is h = by_value (λ given. moves given.0 given.1) _ before said is (λ given is. moves_kept before given.0 given.1 h)
+statement_keeps statement.Difstep before line said place is h = by_value (λ given. moves given.0 given.1) _ before said is (λ given is. moves_kept before given.0 given.1 h)
 statement_keeps statement.TimeStart before line said place is h =
-    let by = said_by starts (given_time_in (time_start_of before) line) said is in subst (λ (s : Said). IsSoFar (s ∷ before)) by.2 (starts_kept before by.0 (time_small (time_start_of before) line by.0 by.1) h)
+    by_value (λ time. of_times (starts time)) _ before said is (λ time is. times_kept before (starts time) (record { start = time_small (time_start_of before) line time is; stop = (h the_times).stop; step = (h the_times).step }) h)
 statement_keeps statement.TimeStop before line said place is h =
-    let by = said_by stops (given_time_in (time_stop_of before) line) said is in subst (λ (s : Said). IsSoFar (s ∷ before)) by.2 (stops_kept before by.0 (time_small (time_stop_of before) line by.0 by.1) h)
+    by_value (λ time. of_times (stops time)) _ before said is (λ time is. times_kept before (stops time) (record { start = (h the_times).start; stop = time_small (time_stop_of before) line time is; step = (h the_times).step }) h)
 statement_keeps statement.TimeStep before line said place is h =
-    let by = said_by steps (time_step_in before line) said is in subst (λ (s : Said). IsSoFar (s ∷ before)) by.2 (time_step_keeps before line by.0 by.1 h)
-statement_keeps statement.MaxMol before line said place is h =
-    let by = said_by limits (max_mol_in before line) said is in subst (λ (s : Said). IsSoFar (s ∷ before)) by.2 (max_mol_keeps before line by.0 by.1 h)
-statement_keeps statement.RandomSeed before line said place is h =
-    let by = said_by seeds (random_seed_in before line) said is in subst (λ (s : Said). IsSoFar (s ∷ before)) by.2 (seeds_kept before by.0 h)
-statement_keeps statement.Boundaries before line said place is h =
-    let by = said_by (λ given. walls given.0 given.1) (boundaries_in (axes_of before) line) said is in subst (λ (s : Said). IsSoFar (s ∷ before)) by.2 (boundaries_keep before line by.0 by.1 h)
-statement_keeps statement.Mol before line said place is h =
-    let by = said_by places (mol_in (axes_of before) (species_of before) line) said is in subst (λ (s : Said). IsSoFar (s ∷ before)) by.2 (mol_keeps before line by.0 by.1 h)
-statement_keeps statement.CompartmentMol before line said place is h =
-    let by = said_by places (compartment_mol_in (axes_of before) (species_of before) (compartment_names (blocks_said before)) line) said is in
-    subst (λ (s : Said). IsSoFar (s ∷ before)) by.2 (compartment_mol_keeps before line by.0 by.1 place h)
-statement_keeps statement.Reaction before line said place is h =
-    let by = said_by of_reactions (reaction_said (species_of before) (reactions_said before) line) said is in
-    subst (λ (s : Said). IsSoFar (s ∷ before)) by.2 (of_reactions_kept before by.0 (reaction_keeps (dims_of before) (species_of before) (reactions_said before) line by.0 by.1 h.reactions) h)
-statement_keeps statement.BindingRadius before line said place is h =
-    let by = said_by of_reactions (binding_radius_said (reactions_said before) line) said is in
-    subst (λ (s : Said). IsSoFar (s ∷ before)) by.2 (of_reactions_kept before by.0 (binding_radius_keeps (dims_of before) (length (species_of before)) (reactions_said before) line by.0 by.1 h.reactions) h)
-statement_keeps statement.ReactionProbability before line said place is h =
-    let by = said_by of_reactions (reaction_probability_said (reactions_said before) line) said is in
-    subst (λ (s : Said). IsSoFar (s ∷ before)) by.2 (of_reactions_kept before by.0 (reaction_probability_keeps (dims_of before) (length (species_of before)) (reactions_said before) line by.0 by.1 h.reactions) h)
-statement_keeps statement.ProductPlacement before line said place is h =
-    let by = said_by of_reactions (product_placement_said (dims_of before) (species_of before) (reactions_said before) line) said is in
-    subst (λ (s : Said). IsSoFar (s ∷ before)) by.2 (of_reactions_kept before by.0 (product_placement_keeps (dims_of before) (length (species_of before)) (species_of before) (reactions_said before) line by.0 by.1 h.reactions) h)
-statement_keeps (statement.Block one) before line said place is h =
-    let by = said_by of_blocks (block_line_in one (axes_of before) (species_of before) (blocks_said before) line) said is in
-    subst (λ (s : Said). IsSoFar (s ∷ before)) by.2 (block_keeps one before line by.0 by.1 h)
-statement_keeps statement.OutputFiles before line said place is h =
-    let by = said_by writes (output_files_in (outputs_of before) line) said is in
-    subst (λ (s : Said). IsSoFar (s ∷ before)) by.2 (writes_kept before by.0 (files_are_few (outputs_of before) line by.0 by.1) h)
-statement_keeps statement.Cmd before line said place is h =
-    let by = said_by performs (cmd_in (known_before before) (length (commands_of before)) line) said is in subst (λ (s : Said). IsSoFar (s ∷ before)) by.2 (cmd_keeps before line by.0 by.1 place h)
+    by_value (λ time. of_times (steps time)) _ before said is (λ time is. times_kept before (steps time) (record { start = (h the_times).start; stop = (h the_times).stop; step = step_fits (time_step_of before) line time is }) h)
+statement_keeps statement.MaxMol before line said place is h = by_value limits _ before said is (λ count is. max_mol_keeps before line count is h)
+statement_keeps statement.RandomSeed before line said place is h = by_value seeds _ before said is (λ seed is. seeds_kept before seed h)
+statement_keeps statement.Boundaries before line said place is h = by_value (λ given. walls given.0 given.1) _ before said is (λ given is. boundaries_keep before line given is h)
+statement_keeps statement.Mol before line said place is h = by_value places _ before said is (λ one is. mol_keeps before line one is h)
+statement_keeps statement.CompartmentMol before line said place is h = by_value places _ before said is (λ one is. compartment_mol_keeps before line one is place h)
+statement_keeps statement.Reaction before line said place is h = by_value of_reactions _ before said is (λ one is. of_reactions_kept before one (reaction_keeps (dims_of before) (species_of before) (reactions_said before) line one is (h the_reactions)) h)
+statement_keeps statement.BindingRadius before line said place is h = by_value of_reactions _ before said is (λ one is. of_reactions_kept before one (binding_radius_keeps (dims_of before) (length (species_of before)) (reactions_said before) line one is (h the_reactions)) h)
+statement_keeps statement.ReactionProbability before line said place is h = by_value of_reactions _ before said is (λ one is. of_reactions_kept before one (reaction_probability_keeps (dims_of before) (length (species_of before)) (reactions_said before) line one is (h the_reactions)) h)
+statement_keeps statement.ProductPlacement before line said place is h = by_value of_reactions _ before said is (λ one is. of_reactions_kept before one (product_placement_keeps (dims_of before) (length (species_of before)) (species_of before) (reactions_said before) line one is (h the_reactions)) h)
+statement_keeps (statement.Block block) before line said place is h = by_value of_blocks _ before said is (λ one is. block_keeps block before line one is h)
+statement_keeps statement.OutputFiles before line said place is h = by_value writes _ before said is (λ more is. writes_kept before more (files_are_few (outputs_of before) line more is) h)
+statement_keeps statement.Cmd before line said place is h = by_value performs _ before said is (λ command is. cmd_keeps before line command is place h)
 
 pub line_keeps : (before : List Said) (line : Stated) (said : Said) → line_in before line ≡ Ok said → IsSoFar before → IsSoFar (said ∷ before)
 unfolding line_in

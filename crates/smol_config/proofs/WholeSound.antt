@@ -40,9 +40,9 @@ use Rattle.smol_config.specs.Reactions.{reactions_said}
 use Rattle.smol_config.specs.Blocks.{blocks_said, compartment_count}
 use Rattle.smol_config.specs.Commands.{commands_of, outputs_of}
 use Rattle.smol_config.specs.Content.{content_of, species_from, started}
-use Rattle.smol_config.specs.Whole.{bounded, has_chances, has_difstep, has_few_steps, has_room, needed_in, behind_blocks, closed_in, whole_in}
+use Rattle.smol_config.specs.Whole.{bounded, has_chances, has_difstep, has_few_steps, has_room, needed_from, needed_in, behind_blocks, closed_in, whole_in}
 use Rattle.smol_config.specs.Reader.{config_from, config_of, line_in, lines_in, read_from}
-use Rattle.smol_config.specs.SoFar.{IsSoFar}
+use Rattle.smol_config.specs.SoFar.{IsSoFar, the_axes, the_species, the_times, the_limit, the_order, the_placings, the_reactions, the_blocks, the_outputs, the_command_count, the_commands}
 use Rattle.smol_config.specs.Tables.{AreSmall}
 use Rattle.smol_config.proofs.Rules.{line_keeps}
 
@@ -55,7 +55,7 @@ in_line line (Err kind) found is = absurd cc
 pub needed_is : (before : List Said) (needed : Needed) → needed_in before ≡ Ok needed
     → (dims_of before ≡ Some needed.dims) × (is_walled needed.dims 0 (bounds_of 0 before) ≡ true) × (is_walled needed.dims 1 (bounds_of 1 before) ≡ true) × (is_walled needed.dims 2 (bounds_of 2 before) ≡ true)
     × (time_stop_of before ≡ Some needed.stop) × (time_step_of before ≡ Some needed.step)
-unfolding needed_in
+unfolding needed_from
 needed_is before needed is =
     let last = λ (dims : ℕ) (stop step : ℤ). let all : Result Needed Kind = Ok (record { dims = dims; stop = stop; step = step }) in all in
     let timed = λ (dims : ℕ) (stop : ℤ). with_value (there (time_step_of before) (kind.Missing need.TimeStep)) (last dims stop) in
@@ -174,21 +174,21 @@ content_is_sound : (before : List Said) (needed : Needed) → IsSoFar before →
 unfolding content_of walls_of
 content_is_sound before needed h is few near room shared =
     let given = needed_is before needed is in
-    let axes = rw given.0 at h.axes.dims in
-    let stop = rw given.4 at h.stop in
-    let step = rw given.5 at h.step in
-    let start = time_within (time_start_of before) h.start in
-    let most = limit_within (max_mol_of before) h.max_mol in
+    let axes = rw given.0 at (h the_axes).dims in
+    let stop = rw given.4 at (h the_times).stop in
+    let step = rw given.5 at (h the_times).step in
+    let start = time_within (time_start_of before) (h the_times).start in
+    let most = limit_within (max_mol_of before) (h the_limit) in
     let Q : ℕ → Option Bounds → Option ℕ → Type 0 = λ axis bounds dims. IfSome bounds (IsBounded dims axis) in
     let walls = are_walls needed.dims (bounds_of 0 before) (bounds_of 1 before) (bounds_of 2 before) axes.0 axes.1 given.1 given.2 given.3
-    (subst (Q 0 (bounds_of 0 before)) given.0 h.axes.x) (subst (Q 1 (bounds_of 1 before)) given.0 h.axes.y) (subst (Q 2 (bounds_of 2 before)) given.0 h.axes.z) in
+    (subst (Q 0 (bounds_of 0 before)) given.0 (h the_axes).x) (subst (Q 1 (bounds_of 1 before)) given.0 (h the_axes).y) (subst (Q 2 (bounds_of 2 before)) given.0 (h the_axes).z) in
     let count = length-species_from needed.step before 0 (species_of before) in
     let around = walls_of (axes_of before) in
     let Placed : ℕ → Type 0 = λ species. All (IsPlacing species (compartment_count before) around) (placings_of before) in
     let Commanded : ℕ → Type 0 = λ species. All (IsCommand species (compartment_count before) (length (outputs_of before)) around) (commands_of before) in
     let Reacting : ℕ → Type 0 = λ species. All (IsReaction needed.dims species) (reactions_of (reactions_said before)) in
-    let blocks = blocks_fit needed.dims (blocks_said before) (rw given.0 at h.blocks) in
-    let few_species = h.species in record {
+    let blocks = blocks_fit needed.dims (blocks_said before) (rw given.0 at (h the_blocks)) in
+    let few_species = (h the_species) in record {
       dims_above = axes.0;
       dims_below = axes.1;
       species = omega arith;
@@ -200,13 +200,13 @@ content_is_sound before needed h is few near room shared =
       panels = blocks.2.panels;
       compartment_count = blocks.1;
       compartments = blocks.2.compartments;
-      reaction_count = subst (λ (n : ℕ). n ≤ 1024) (sym (length-numbered (reaction_made (reactions_said before)) 0 (schemes_of (reactions_said before)))) h.reactions.count;
-      reactions = subst Reacting (sym count) (h.reactions.all needed.dims (subst (λ (dims : Option ℕ). IfSome dims (λ (given : ℕ). given ≡ needed.dims)) (sym given.0) refl));
+      reaction_count = subst (λ (n : ℕ). n ≤ 1024) (sym (length-numbered (reaction_made (reactions_said before)) 0 (schemes_of (reactions_said before)))) (h the_reactions).count;
+      reactions = subst Reacting (sym count) ((h the_reactions).all needed.dims (subst (λ (dims : Option ℕ). IfSome dims (λ (given : ℕ). given ≡ needed.dims)) (sym given.0) refl));
       shares = λ species within. shares_fit species (reactions_said before) (shared_at (length (content_of needed before).species) species (reactions_of (reactions_said before)) (chances_of (reactions_said before)) shared within);
-      placings = subst Placed (sym count) h.placings;
-      command_count = h.command_count;
-      commands = subst Commanded (sym count) h.commands;
-      output_count = h.outputs;
+      placings = subst Placed (sym count) (h the_placings);
+      command_count = (h the_command_count);
+      commands = subst Commanded (sym count) (h the_commands);
+      output_count = (h the_outputs);
       start = start;
       stop = stop;
       step = step.0;
@@ -238,21 +238,17 @@ whole_is_sound before draft h is = closed_is_sound before draft h (closed_by (op
 
 -- so far nothing is said
 pub nothing_yet : IsSoFar []
-nothing_yet = record {
-  axes = record { dims = tt; x = tt; y = tt; z = tt };
-  species = omega arith;
-  start = tt;
-  stop = tt;
-  step = tt;
-  max_mol = tt;
-  settled = λ some. absurd (omega arith);
-  placings = λ k d within. absurd (omega arith);
-  reactions = nothing_sound None 0;
-  blocks = refl;
-  outputs = omega arith;
-  command_count = omega arith;
-  commands = λ k d within. absurd (omega arith);
-}
+nothing_yet the_axes = record { dims = tt; x = tt; y = tt; z = tt }
+nothing_yet the_species = omega arith
+nothing_yet the_times = record { start = tt; stop = tt; step = tt }
+nothing_yet the_limit = tt
+nothing_yet the_order = λ some. absurd (omega arith)
+nothing_yet the_placings = λ k d within. absurd (omega arith)
+nothing_yet the_reactions = nothing_sound None 0
+nothing_yet the_blocks = refl
+nothing_yet the_outputs = omega arith
+nothing_yet the_command_count = omega arith
+nothing_yet the_commands = λ k d within. absurd (omega arith)
 
 -- lines that are read keep what holds so far
 lines_keep : (before : List Said) (lines : List Stated) (all : List Said) → read_from before lines ≡ Ok all → IsSoFar before → IsSoFar all

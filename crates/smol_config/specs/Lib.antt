@@ -1,5 +1,6 @@
 pub mod Said
 pub mod Axes
+pub mod Once
 pub mod Dim
 pub mod Species
 pub mod Motion
@@ -14,6 +15,7 @@ pub mod CompartmentMol
 pub mod Commands
 pub mod Content
 pub mod Whole
+pub mod Looked
 pub mod Reader
 pub mod SoFar
 pub mod Tables

@@ -1,12 +1,11 @@
 -- `max_mol N`: how many molecules there may be, 1 to 1,000,000. It stands once, and 100,000 holds where it doesn't.
-use Rattle.std.specs.Prelude.{ℕ, List, [], ◌∷◌, Option, None, Some, Result, unwrap_or}
+use Rattle.std.specs.Prelude.{ℕ, List, Option, None, Some, Result, unwrap_or}
 use Rattle.smol_text.specs.Reading.{Stated}
 use Rattle.smol_types.specs.declared.fault.Kind.{Kind}
 use Rattle.smol_types.specs.Limits.{most_molecules}
-use Rattle.smol_line.specs.Words.{word_at}
-use Rattle.smol_line.specs.Checks.{once, word_count, passing}
 use Rattle.smol_line.specs.Numbers.{count_in}
 use Rattle.smol_line.specs.LookingBack.{nearest}
+use Rattle.smol_config.specs.Once.{stands_once}
 use Rattle.smol_config.specs.Said.{Said, limits}
 
 abbrev pub said_limit : Said → Option ℕ
@@ -21,5 +20,6 @@ max_mol_of before = nearest said_limit before
 abbrev pub limit_of : Option ℕ → ℕ
 limit_of given = unwrap_or given 100000
 
-unfoldable pub max_mol_in : List Said → Stated → Result ℕ Kind
-max_mol_in before line = passing (once (max_mol_of before) ∷ word_count 2 line ∷ []) (count_in 1 most_molecules (word_at line 1))
+-- the limit of a line, by what a line before gives
+unfoldable pub max_mol_in : Option ℕ → Stated → Result ℕ Kind
+max_mol_in given line = stands_once given (λ word. count_in 1 most_molecules word) line

@@ -12,7 +12,6 @@ use Rattle.smol_line.specs.SpeciesWord.{chosen_in, is_chosen}
 use Rattle.smol_config.specs.declared.motion.Motion.{Motion}
 use Rattle.smol_config.specs.declared.motion.Motion.TheVariants as motion
 use Rattle.smol_config.specs.Said.{Said, moves}
-use Rattle.smol_config.specs.Species.{species_of}
 
 -- how large a diffusion coefficient may be, in billionths: 10^9 square length units per unit of time
 abbrev pub most_difc : ℕ
@@ -26,18 +25,18 @@ difc_word word = unsigned_in 9 most_difc word
 abbrev pub difstep_word : List ℕ → Result ℕ Kind
 difstep_word word = unsigned_in 6 longest word
 
--- species move with this diffusion coefficient, or with this difstep
-unfoldable pub difc_in : List Said → Stated → Result (Chosen × Motion) Kind
-difc_in before line =
+-- which of the species of these names move with this diffusion coefficient, or with this difstep
+unfoldable pub difc_in : List (List ℕ) → Stated → Result (Chosen × Motion) Kind
+difc_in species line =
     passing (word_count 3 line ∷ [])
-    (with_value (chosen_in (species_of before) (word_at line 1)) (λ chosen.
+    (with_value (chosen_in species (word_at line 1)) (λ chosen.
     with_value (difc_word (word_at line 2)) (λ difc.
     Ok (chosen, motion.Difc difc))))
 
-unfoldable pub difstep_in : List Said → Stated → Result (Chosen × Motion) Kind
-difstep_in before line =
+unfoldable pub difstep_in : List (List ℕ) → Stated → Result (Chosen × Motion) Kind
+difstep_in species line =
     passing (word_count 3 line ∷ [])
-    (with_value (chosen_in (species_of before) (word_at line 1)) (λ chosen.
+    (with_value (chosen_in species (word_at line 1)) (λ chosen.
     with_value (difstep_word (word_at line 2)) (λ difstep.
     Ok (chosen, motion.Difstep difstep))))
 

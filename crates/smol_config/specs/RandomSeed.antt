@@ -4,10 +4,10 @@ use Rattle.std.specs.Str.{bytes_eq}
 use Rattle.smol_text.specs.Reading.{Stated}
 use Rattle.smol_types.specs.declared.fault.Kind.{Kind}
 use Rattle.smol_types.specs.declared.fault.Kind.TheVariants.{NotInProfile}
-use Rattle.smol_line.specs.Words.{word_at}
-use Rattle.smol_line.specs.Checks.{unless, once, word_count, passing}
+use Rattle.smol_line.specs.Checks.{unless, passing}
 use Rattle.smol_line.specs.Numbers.{count_in}
 use Rattle.smol_line.specs.LookingBack.{nearest}
+use Rattle.smol_config.specs.Once.{stands_once}
 use Rattle.smol_config.specs.Said.{Said, seeds}
 
 -- the greatest seed
@@ -22,11 +22,10 @@ said_seed other = None
 abbrev pub random_seed_of : List Said → Option ℕ
 random_seed_of before = nearest said_seed before
 
-unfoldable pub random_seed_in : List Said → Stated → Result ℕ Kind
-random_seed_in before line =
-    passing
-    (once (random_seed_of before)
-    ∷ word_count 2 line
-    ∷ unless (not (bytes_eq (word_at line 1) (codes "time"))) NotInProfile
-    ∷ [])
-    (count_in 0 most_seed (word_at line 1))
+-- a seed
+abbrev pub seed_in : List ℕ → Result ℕ Kind
+seed_in word = passing (unless (not (bytes_eq word (codes "time"))) NotInProfile ∷ []) (count_in 0 most_seed word)
+
+-- the seed of a line, by what a line before gives
+unfoldable pub random_seed_in : Option ℕ → Stated → Result ℕ Kind
+random_seed_in given line = stands_once given seed_in line

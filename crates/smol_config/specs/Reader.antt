@@ -15,14 +15,14 @@ use Rattle.smol_reactions.specs.Statements.{binding_radius_said, product_placeme
 use Rattle.smol_blocks.specs.declared.statement.Statement.{Statement}
 use Rattle.smol_blocks.specs.declared.statement.Statement.TheVariants.{PassedOver, NotInProfile, Unknown, Dim, Species, Difc, Difstep, TimeStart, TimeStop, TimeStep, MaxMol, RandomSeed, Boundaries, Mol, CompartmentMol, Reaction, BindingRadius, ReactionProbability, ProductPlacement, Block, OutputFiles, Cmd}
 use Rattle.smol_blocks.specs.Statement.{may_stand, statement_of}
-use Rattle.smol_config.specs.Said.{Said, passed_over, axes, names, moves, starts, stops, steps, limits, seeds, walls, places, of_reactions, of_blocks, writes, performs}
+use Rattle.smol_config.specs.Said.{Said, passed_over, axes, names, moves, starts, stops, steps, of_times, limits, seeds, walls, places, of_reactions, of_blocks, writes, performs}
 use Rattle.smol_config.specs.Axes.{axes_of, dims_of}
 use Rattle.smol_config.specs.Dim.{dim_in}
 use Rattle.smol_config.specs.Species.{species_in, species_of}
 use Rattle.smol_config.specs.Motion.{difc_in, difstep_in}
-use Rattle.smol_config.specs.Times.{time_start_of, time_stop_of, given_time_in, time_step_in}
-use Rattle.smol_config.specs.MaxMol.{max_mol_in}
-use Rattle.smol_config.specs.RandomSeed.{random_seed_in}
+use Rattle.smol_config.specs.Times.{time_start_of, time_stop_of, time_step_of, given_time_in, time_step_in}
+use Rattle.smol_config.specs.MaxMol.{max_mol_in, max_mol_of}
+use Rattle.smol_config.specs.RandomSeed.{random_seed_in, random_seed_of}
 use Rattle.smol_config.specs.Boundaries.{boundaries_in}
 use Rattle.smol_config.specs.Mol.{mol_in}
 use Rattle.smol_config.specs.Reactions.{reactions_said}
@@ -37,14 +37,14 @@ statement_in PassedOver before line = Ok passed_over
 statement_in NotInProfile before line = Err kind.NotInProfile
 statement_in Unknown before line = Err kind.UnknownStatement
 statement_in Dim before line = say axes (dim_in (axes_of before) line)
-statement_in Species before line = say names (species_in before line)
-statement_in Difc before line = say (λ given. moves given.0 given.1) (difc_in before line)
-statement_in Difstep before line = say (λ given. moves given.0 given.1) (difstep_in before line)
-statement_in TimeStart before line = say starts (given_time_in (time_start_of before) line)
-statement_in TimeStop before line = say stops (given_time_in (time_stop_of before) line)
-statement_in TimeStep before line = say steps (time_step_in before line)
-statement_in MaxMol before line = say limits (max_mol_in before line)
-statement_in RandomSeed before line = say seeds (random_seed_in before line)
+statement_in Species before line = say names (species_in (species_of before) line)
+statement_in Difc before line = say (λ given. moves given.0 given.1) (difc_in (species_of before) line)
+statement_in Difstep before line = say (λ given. moves given.0 given.1) (difstep_in (species_of before) line)
+statement_in TimeStart before line = say (λ time. of_times (starts time)) (given_time_in (time_start_of before) line)
+statement_in TimeStop before line = say (λ time. of_times (stops time)) (given_time_in (time_stop_of before) line)
+statement_in TimeStep before line = say (λ time. of_times (steps time)) (time_step_in (time_step_of before) line)
+statement_in MaxMol before line = say limits (max_mol_in (max_mol_of before) line)
+statement_in RandomSeed before line = say seeds (random_seed_in (random_seed_of before) line)
 statement_in Boundaries before line = say (λ given. walls given.0 given.1) (boundaries_in (axes_of before) line)
 statement_in Mol before line = say places (mol_in (axes_of before) (species_of before) line)
 statement_in CompartmentMol before line =

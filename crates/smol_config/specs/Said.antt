@@ -8,6 +8,12 @@ use Rattle.smol_reactions.specs.ReactionSaid.{ReactionSaid}
 use Rattle.smol_blocks.specs.Blocks.{BlockSaid}
 use Rattle.smol_config.specs.declared.motion.Motion.{Motion}
 
+-- the run starts, and stops, at this time, and a step takes this time
+pub data TimeSaid : Type 0 where
+  starts : ℤ → TimeSaid
+  stops : ℤ → TimeSaid
+  steps : ℤ → TimeSaid
+
 pub data Said : Type 0 where
   -- nothing, as the line is passed over
   passed_over : Said
@@ -17,10 +23,8 @@ pub data Said : Type 0 where
   names : List (List ℕ) → Said
   -- the species chosen move so
   moves : Chosen → Motion → Said
-  -- the run starts, and stops, at this time, and a step takes this time
-  starts : ℤ → Said
-  stops : ℤ → Said
-  steps : ℤ → Said
+  -- this of the times of a run
+  of_times : TimeSaid → Said
   -- there may be so many molecules
   limits : ℕ → Said
   -- this is the seed of the random words

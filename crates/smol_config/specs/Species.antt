@@ -25,11 +25,12 @@ species_fault known word = result_err (new_name_in known word)
 abbrev pub further_words : Stated → List (List ℕ)
 further_words line = drop 1 (words_of line)
 
-unfoldable pub species_in : List Said → Stated → Result (List (List ℕ)) Kind
-species_in before line =
+-- the names that a line gives behind these
+unfoldable pub species_in : List (List ℕ) → Stated → Result (List (List ℕ)) Kind
+species_in known line =
     passing
     (unless (nat_le 2 (length (words_of line))) WrongWordCount
-    ∷ names_fault species_fault (species_of before) (further_words line)
-    ∷ unless (nat_le (length (species_of before) + length (further_words line)) most_species) TooMany
+    ∷ names_fault species_fault known (further_words line)
+    ∷ unless (nat_le (length known + length (further_words line)) most_species) TooMany
     ∷ [])
     (Ok (further_words line))

@@ -1,5 +1,6 @@
 -- What the reader keeps of the lines read so far. This is no part of what a text means.
-use Rattle.std.specs.Prelude.{◌≡◌, ◌≤◌, ◌+◌, ◌==◌, ℕ, ℤ, unsigned_abs, List, [], ◌∷◌, length, drop, Some, Result, Ok, Err, slice_index_or, if◌then◌else◌}
+use Rattle.std.specs.Prelude.{◌≡◌, ◌≤◌, ◌+◌, ◌==◌, ℕ, ℤ, unsigned_abs, List, [], ◌∷◌, length, drop, Option, Some, Result, Ok, Err, slice_index_or, if◌then◌else◌}
+use Rattle.std.specs.Result.{IsOk}
 use Rattle.smol_text.specs.Reading.{Stated}
 use Rattle.smol_types.specs.declared.draft.Draft.{Draft}
 use Rattle.smol_types.specs.declared.fault.ConfigFault.{ConfigFault}
@@ -14,48 +15,62 @@ use Rattle.smol_line.specs.Fault.{TellsFault}
 use Rattle.smol_line.specs.Length.{most_micros}
 use Rattle.smol_line.specs.LookingBack.{Reads as ReadsLine}
 use Rattle.smol_line.specs.declared.refusal.Refusal.{Refusal}
+use Rattle.smol_line.specs.declared.refusal.Refusal.TheVariants.{At}
+use Rattle.smol_blocks.specs.declared.blocks.Blocks.{Blocks}
+use Rattle.smol_blocks.specs.Blocks.{BlockSaid}
 use Rattle.smol_blocks.specs.BlocksTable.{Holds as HoldsBlocks, IsKept as AreBlocksKept}
+use Rattle.smol_reactions.specs.declared.reactions.Reactions.{Reactions}
+use Rattle.smol_reactions.specs.ReactionSaid.{ReactionSaid}
 use Rattle.smol_reactions.specs.Table.{Holds as HoldsReactions, IsKept}
 use Rattle.smol_config.specs.declared.motion.Motion.{Motion}
 use Rattle.smol_config.specs.declared.tables.Tables.{Tables}
 use Rattle.smol_config.specs.declared.whole.Needed.{Needed}
 use Rattle.smol_config.specs.declared.whole.Parts.{Parts}
 use Rattle.smol_config.specs.Said.{Said}
-use Rattle.smol_config.specs.Axes.{axes_of}
-use Rattle.smol_config.specs.Species.{species_of}
-use Rattle.smol_config.specs.Motion.{still, motion_of, difstep_of}
-use Rattle.smol_config.specs.Times.{time_start_of, time_stop_of, time_step_of}
-use Rattle.smol_config.specs.MaxMol.{limit_of, max_mol_of}
-use Rattle.smol_config.specs.RandomSeed.{random_seed_of}
-use Rattle.smol_config.specs.Mol.{placings_of}
+use Rattle.smol_config.specs.Motion.{still, difstep_of}
+use Rattle.smol_config.specs.MaxMol.{limit_of}
 use Rattle.smol_config.specs.Reactions.{reactions_said}
 use Rattle.smol_config.specs.Blocks.{blocks_said}
-use Rattle.smol_config.specs.Commands.{commands_of, outputs_of}
+use Rattle.smol_config.specs.Looked.{Looked, looked_up}
 use Rattle.smol_config.specs.Reader.{read_from}
 use Rattle.smol_config.specs.SoFar.{IsSoFar}
 use Rattle.smol_config.specs.Whole.{whole_in}
 
--- each table is its look-up over what the lines so far say
+-- what the tables give of each plain matter
+abbrev pub seen : Tables → Looked
+seen tables = record {
+  axes = tables.axes;
+  species = tables.species.names;
+  motions = λ number. slice_index_or tables.species.motions.items number still;
+  times = tables.times;
+  max_mol = tables.max_mol;
+  seed = tables.seed;
+  placings = tables.placings;
+  outputs = tables.outputs;
+  commands = tables.commands;
+}
+
+-- the tables of reactions and of blocks hold what is said of these, and their parts fit each other
+pub record HoldGroups (of_reactions : Reactions) (of_blocks : Blocks) (said_of_reactions : List ReactionSaid) (said_of_blocks : List BlockSaid) : Type 0 where
+  pub reactions : HoldsReactions of_reactions said_of_reactions
+  pub kept : IsKept of_reactions
+  pub blocks : HoldsBlocks of_blocks said_of_blocks
+  pub blocks_kept : AreBlocksKept of_blocks
+
+-- the tables hold what the lines so far say: each plain table is its look-up
 pub record Holds (tables : Tables) (before : List Said) : Type 0 where
-  pub axes : tables.axes ≡ axes_of before
-  pub species : tables.species.names ≡ species_of before
-  pub motions : (number : ℕ) → slice_index_or tables.species.motions.items number still ≡ motion_of number before
-  pub start : tables.start ≡ time_start_of before
-  pub stop : tables.stop ≡ time_stop_of before
-  pub step : tables.step ≡ time_step_of before
-  pub max_mol : tables.max_mol ≡ max_mol_of before
-  pub seed : tables.seed ≡ random_seed_of before
-  pub placings : tables.placings ≡ placings_of before
-  pub reactions : HoldsReactions tables.reactions (reactions_said before)
-  pub kept : IsKept tables.reactions
-  pub blocks : HoldsBlocks tables.blocks (blocks_said before)
-  pub blocks_kept : AreBlocksKept tables.blocks
-  pub outputs : tables.outputs ≡ outputs_of before
-  pub commands : tables.commands ≡ commands_of before
+  pub plain : seen tables ≡ looked_up before
+  pub groups : HoldGroups tables.reactions tables.blocks (reactions_said before) (blocks_said before)
+  pub open groups use *
 
 -- how the reading of a line ends: it is taken and the tables hold what it says too, or its fault is told, or memory ran out
 abbrev pub Reads : {T : Type 0} → (List Said → Stated → Result Said Kind) → Stated → Tables → Tables → Result T Refusal → Type 0
 Reads rule line old new result = ReadsLine Holds (λ before. rule before line) old new result
+
+-- a value that stands once is kept, or the fault of its line is told
+abbrev pub Keeps : {T U : Type 0} → Result T Kind → Option T → Option T → Result U Refusal → Type 0
+Keeps (Ok value) old new result = (new ≡ Some value) × IsOk result
+Keeps (Err kind) old new result = (new ≡ old) × (result ≡ Err (At kind))
 
 -- the parts of the tables fit each other, and no more is in them than there may be
 pub record AreReady (tables : Tables) : Type 0 where

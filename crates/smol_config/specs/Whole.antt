@@ -9,31 +9,37 @@ use Rattle.smol_types.specs.declared.species.Species.{Species}
 use Rattle.smol_types.specs.Limits.{longest, most_steps}
 use Rattle.smol_types.specs.Placings.{placed_by}
 use Rattle.smol_types.specs.Steps.{last_step}
+use Rattle.smol_line.specs.declared.axes.Axes.{Axes}
 use Rattle.smol_line.specs.Axes.{is_walled}
 use Rattle.smol_line.specs.Fault.{Fault, fault_at, at_line}
 use Rattle.smol_line.specs.Checks.{unless, passing, with_value, there}
 use Rattle.smol_blocks.specs.Blocks.{block_of, opening_line}
 use Rattle.smol_reactions.specs.Content.{are_shared, chances_of}
+use Rattle.smol_config.specs.declared.times.Times.{Times}
 use Rattle.smol_config.specs.declared.whole.Needed.{Needed}
 use Rattle.smol_config.specs.Said.{Said}
-use Rattle.smol_config.specs.Axes.{bounds_of, dims_of}
-use Rattle.smol_config.specs.Times.{time_stop_of, time_step_of}
+use Rattle.smol_config.specs.Axes.{axes_of}
+use Rattle.smol_config.specs.Times.{times_of}
 use Rattle.smol_config.specs.Reactions.{reactions_said}
 use Rattle.smol_config.specs.Blocks.{blocks_said}
 use Rattle.smol_config.specs.Content.{content_of}
 
 -- what a file can't do without: the number of axes, their walls, the time at which the run stops, and that of a step
-unfoldable pub needed_in : List Said → Result Needed Kind
-needed_in before =
-    with_value (there (dims_of before) (Missing Dim)) (λ dims.
+unfoldable pub needed_from : Axes → Times → Result Needed Kind
+needed_from axes times =
+    with_value (there axes.dims (Missing Dim)) (λ dims.
     passing
-    (unless (is_walled dims 0 (bounds_of 0 before)) (Missing (Boundaries 0))
-    ∷ unless (is_walled dims 1 (bounds_of 1 before)) (Missing (Boundaries 1))
-    ∷ unless (is_walled dims 2 (bounds_of 2 before)) (Missing (Boundaries 2))
+    (unless (is_walled dims 0 axes.x) (Missing (Boundaries 0))
+    ∷ unless (is_walled dims 1 axes.y) (Missing (Boundaries 1))
+    ∷ unless (is_walled dims 2 axes.z) (Missing (Boundaries 2))
     ∷ [])
-    (with_value (there (time_stop_of before) (Missing TimeStop)) (λ stop.
-    with_value (there (time_step_of before) (Missing TimeStep)) (λ step.
+    (with_value (there times.stop (Missing TimeStop)) (λ stop.
+    with_value (there times.step (Missing TimeStep)) (λ step.
     Ok (record { dims = dims; stop = stop; step = step })))))
+
+-- the same of what the lines say
+abbrev pub needed_in : List Said → Result Needed Kind
+needed_in before = needed_from (axes_of before) (times_of before)
 
 -- a run makes no more steps than it may
 abbrev pub has_few_steps : Draft → Bool

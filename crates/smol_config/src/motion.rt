@@ -1,8 +1,6 @@
 //! `difc SPECIES+ V` and `difstep SPECIES+ V`: how far species move in a step.
-ghost use Rattle.std.specs.Prelude.{◌≡◌, ◌≤◌, length, List, IfOk};
+ghost use Rattle.std.specs.Prelude.{◌≡◌, ◌≤◌, length, IfOk};
 ghost use Rattle.smol_types.specs.Limits.{most_species};
-ghost use Rattle.smol_config.specs.Said.{Said};
-ghost use Rattle.smol_config.specs.Species.{species_of};
 ghost use Rattle.smol_config.specs.Motion.{difc_in, difstep_in, difstep_of};
 
 use smol_line::{Chosen, NameSet, chosen_in, unsigned_in, word_at, word_count};
@@ -29,7 +27,7 @@ pub enum Motion {
 #[tactic(auto, unfolding(crate::specs::Motion::difc_in))]
 pub fn judge_difc(species: &NameSet, line: &StatedLine<'_>) -> Result<(Chosen, Motion), Kind>
     requires few { length species.now ≤ most_species }
-    ensures rule { (before : List Said) → species.now ≡ species_of before → result ≡ difc_in before line.now }
+    ensures rule { result ≡ difc_in species.now line.now }
     ensures ordered { IfOk result (λ given. given.0.first ≤ given.0.end) }
     ensures within { IfOk result (λ given. given.0.end ≤ length species.now) }
 {
@@ -43,7 +41,7 @@ pub fn judge_difc(species: &NameSet, line: &StatedLine<'_>) -> Result<(Chosen, M
 #[tactic(auto, unfolding(crate::specs::Motion::difstep_in))]
 pub fn judge_difstep(species: &NameSet, line: &StatedLine<'_>) -> Result<(Chosen, Motion), Kind>
     requires few { length species.now ≤ most_species }
-    ensures rule { (before : List Said) → species.now ≡ species_of before → result ≡ difstep_in before line.now }
+    ensures rule { result ≡ difstep_in species.now line.now }
     ensures ordered { IfOk result (λ given. given.0.first ≤ given.0.end) }
     ensures within { IfOk result (λ given. given.0.end ≤ length species.now) }
 {

@@ -1,7 +1,6 @@
 //! `random_seed N`: the seed of the random words.
-ghost use Rattle.std.specs.Prelude.{◌≡◌, List};
-ghost use Rattle.smol_config.specs.Said.{Said};
-ghost use Rattle.smol_config.specs.RandomSeed.{random_seed_in, random_seed_of};
+ghost use Rattle.std.specs.Prelude.{◌≡◌};
+ghost use Rattle.smol_config.specs.RandomSeed.{random_seed_in};
 
 use smol_line::{count_in, once, spells, unless, word_at, word_count};
 use smol_text::StatedLine;
@@ -10,7 +9,7 @@ use smol_types::Kind;
 /// The seed that a line gives, where `given` is what a line before gives.
 #[tactic(auto, unfolding(crate::specs::RandomSeed::random_seed_in))]
 pub fn judge(given: Option<u64>, line: &StatedLine<'_>) -> Result<u64, Kind>
-    ensures { (before : List Said) → given ≡ random_seed_of before → result ≡ random_seed_in before line.now }
+    ensures { result ≡ random_seed_in given line.now }
 {
     once(&given)?;
     word_count(2, line)?;

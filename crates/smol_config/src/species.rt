@@ -1,10 +1,9 @@
 //! `species NAME ...`: the names of species, in order.
-ghost use Rattle.std.specs.Prelude.{◌≡◌, ◌++◌, ◌∷◌, [], ℕ, List, None, Some, slice_index_or, OnOk, Ok, Err};
+ghost use Rattle.std.specs.Prelude.{◌≡◌, ◌++◌, ◌∷◌, [], ℕ, None, Some, slice_index_or, OnOk, Ok, Err};
 ghost use Rattle.smol_types.specs.declared.fault.Kind.{Kind as TheKind};
 ghost use Rattle.smol_line.specs.declared.refusal.Refusal.TheVariants.{At};
 ghost use Rattle.smol_line.specs.Names.{names_fault};
-ghost use Rattle.smol_config.specs.Said.{Said};
-ghost use Rattle.smol_config.specs.Species.{further_words, species_fault, species_in, species_of};
+ghost use Rattle.smol_config.specs.Species.{further_words, species_fault, species_in};
 ghost use Rattle.smol_config.specs.Motion.{still};
 
 use crate::species_table::SpeciesTable;
@@ -52,10 +51,8 @@ pub fn read(alloc: Global, species: &mut SpeciesTable, line: &StatedLine<'_>) ->
     ensures names { OnOk result (species.new.names ≡ species.old.names ++ further_words line.now) }
     ensures motions { OnOk result ((number : ℕ)
         → slice_index_or species.new.motions.items number still ≡ slice_index_or species.old.motions.items number still) }
-    ensures accepted { OnOk result ((before : List Said)
-        → species.old.names ≡ species_of before → species_in before line.now ≡ Ok (further_words line.now)) }
-    ensures refused { (kind : TheKind) (before : List Said)
-        → result ≡ Err (At kind) → species.old.names ≡ species_of before → species_in before line.now ≡ Err kind }
+    ensures accepted { OnOk result (species_in species.old.names line.now ≡ Ok (further_words line.now)) }
+    ensures refused { (kind : TheKind) → result ≡ Err (At kind) → species_in species.old.names line.now ≡ Err kind }
 {
     unless(line.len() >= 2, Kind::WrongWordCount)?;
     add_names(alloc, species, line)?;

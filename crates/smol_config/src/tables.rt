@@ -7,8 +7,10 @@ ghost use Rattle.smol_blocks.specs.declared.block_statement.BlockStatement.{Bloc
 ghost use Rattle.smol_blocks.specs.declared.statement.Statement.TheVariants as statement;
 ghost use Rattle.smol_blocks.specs.declared.statement.Statement.TheVariants.{Block};
 ghost use Rattle.smol_blocks.specs.Statement.{statement_of};
+ghost use Rattle.smol_config.specs.Tables.{Keeps};
 
 use crate::species_table::SpeciesTable;
+use crate::times::Times;
 use crate::{boundaries, compartment_mol, dim, max_mol, mol, motion, random_seed, species, times};
 use smol_blocks::{BlockStatement, Blocks, Statement, told_at};
 use smol_cmd::{read_cmd, read_output_files};
@@ -18,14 +20,20 @@ use smol_text::{StatedLine, Text};
 use smol_types::{Command, ConfigFault, Items, Kind, Placing};
 use std::alloc::Global;
 
+// Keeps a value that stands once, or hands the fault of its line on.
+fn keep<T: Drop>(given: Result<T, Kind>, place: &mut Option<T>) -> Result<(), Refusal>
+    ensures { Keeps given place.old place.new result }
+{
+    *place = Some(given?);
+    Ok(())
+}
+
 /// What the lines read so far give, a quantity each.
 #[derive(Drop)]
 pub struct Tables {
     pub axes: Axes,
     pub species: SpeciesTable,
-    pub start: Option<i64>,
-    pub stop: Option<i64>,
-    pub step: Option<i64>,
+    pub times: Times,
     pub max_mol: Option<u32>,
     pub seed: Option<u64>,
     pub placings: Items<Placing>,
@@ -52,9 +60,11 @@ impl Tables {
                 z: None,
             },
             species: SpeciesTable::new(alloc),
-            start: None,
-            stop: None,
-            step: None,
+            times: Times {
+                start: None,
+                stop: None,
+                step: None,
+            },
             max_mol: None,
             seed: None,
             placings: Items::new(alloc),
@@ -63,13 +73,6 @@ impl Tables {
             outputs: NameSet::new(alloc),
             commands: Items::new(alloc),
         }
-    }
-
-    fn read_dim(&mut self, line: &StatedLine<'_>) -> Result<(), Refusal>
-        ensures { Reads (statement_in statement.Dim) line.now self.old self.new result }
-    {
-        self.axes.dims = Some(dim::judge(&self.axes, line)?);
-        Ok(())
     }
 
     fn read_species(&mut self, alloc: Global, line: &StatedLine<'_>) -> Result<(), Refusal>
@@ -93,41 +96,6 @@ impl Tables {
     {
         let (chosen, motion) = motion::judge_difstep(&self.species.names, line)?;
         self.species.set_motion(chosen, motion);
-        Ok(())
-    }
-
-    fn read_time_start(&mut self, line: &StatedLine<'_>) -> Result<(), Refusal>
-        ensures { Reads (statement_in statement.TimeStart) line.now self.old self.new result }
-    {
-        self.start = Some(times::judge(self.start, line)?);
-        Ok(())
-    }
-
-    fn read_time_stop(&mut self, line: &StatedLine<'_>) -> Result<(), Refusal>
-        ensures { Reads (statement_in statement.TimeStop) line.now self.old self.new result }
-    {
-        self.stop = Some(times::judge(self.stop, line)?);
-        Ok(())
-    }
-
-    fn read_time_step(&mut self, line: &StatedLine<'_>) -> Result<(), Refusal>
-        ensures { Reads (statement_in statement.TimeStep) line.now self.old self.new result }
-    {
-        self.step = Some(times::judge_step(self.step, line)?);
-        Ok(())
-    }
-
-    fn read_max_mol(&mut self, line: &StatedLine<'_>) -> Result<(), Refusal>
-        ensures { Reads (statement_in statement.MaxMol) line.now self.old self.new result }
-    {
-        self.max_mol = Some(max_mol::judge(self.max_mol, line)?);
-        Ok(())
-    }
-
-    fn read_random_seed(&mut self, line: &StatedLine<'_>) -> Result<(), Refusal>
-        ensures { Reads (statement_in statement.RandomSeed) line.now self.old self.new result }
-    {
-        self.seed = Some(random_seed::judge(self.seed, line)?);
         Ok(())
     }
 
@@ -278,15 +246,21 @@ impl Tables {
             Statement::PassedOver => Ok(()),
             Statement::NotInProfile => Err(Refusal::At(Kind::NotInProfile)),
             Statement::Unknown => Err(Refusal::At(Kind::UnknownStatement)),
-            Statement::Dim => self.read_dim(line),
+            Statement::Dim => keep(dim::judge(&self.axes, line), &mut self.axes.dims),
             Statement::Species => self.read_species(alloc, line),
             Statement::Difc => self.read_difc(line),
             Statement::Difstep => self.read_difstep(line),
-            Statement::TimeStart => self.read_time_start(line),
-            Statement::TimeStop => self.read_time_stop(line),
-            Statement::TimeStep => self.read_time_step(line),
-            Statement::MaxMol => self.read_max_mol(line),
-            Statement::RandomSeed => self.read_random_seed(line),
+            Statement::TimeStart => keep(
+                times::judge(self.times.start, line),
+                &mut self.times.start,
+            ),
+            Statement::TimeStop => keep(times::judge(self.times.stop, line), &mut self.times.stop),
+            Statement::TimeStep => keep(
+                times::judge_step(self.times.step, line),
+                &mut self.times.step,
+            ),
+            Statement::MaxMol => keep(max_mol::judge(self.max_mol, line), &mut self.max_mol),
+            Statement::RandomSeed => keep(random_seed::judge(self.seed, line), &mut self.seed),
             Statement::Boundaries => self.read_boundaries(line),
             Statement::Mol => self.read_mol(line),
             Statement::CompartmentMol => self.read_compartment_mol(line),

@@ -15,11 +15,12 @@ ghost use Rattle.smol_config.specs.Said.{Said};
 ghost use Rattle.smol_config.specs.Motion.{difstep_of};
 ghost use Rattle.smol_config.specs.Content.{content_of, started};
 ghost use Rattle.smol_config.specs.Tables.{AreSmall, Holds, IsReached, drafted, species_made};
-ghost use Rattle.smol_config.specs.Whole.{bounded, has_chances, has_difstep, has_few_steps, needed_in, closed_in};
+ghost use Rattle.smol_config.specs.Whole.{bounded, has_chances, has_difstep, has_few_steps, needed_from, closed_in};
 
 use crate::motion::{MOST_DIFSTEP, Motion, difstep_of};
 use crate::species_table::SpeciesTable;
 use crate::tables::Tables;
+use crate::times::Times;
 use smol_blocks::Blocks;
 use smol_line::{Axes, Bounds, NameSet, Refusal, is_walled, unless};
 use smol_types::{
@@ -43,23 +44,23 @@ pub struct Needed {
 }
 
 // What the whole file gives of what it can't do without.
-#[tactic(auto, unfolding(crate::specs::Whole::needed_in))]
-fn needed_in(tables: &Tables) -> Result<Needed, Kind>
-    ensures { (before : List Said) → Holds tables.now before → result ≡ needed_in before }
+#[tactic(auto, unfolding(crate::specs::Whole::needed_from))]
+fn needed_from(axes: &Axes, times: &Times) -> Result<Needed, Kind>
+    ensures { result ≡ needed_from axes.now times.now }
 {
-    let Some(dims) = tables.axes.dims else {
+    let Some(dims) = axes.dims else {
         return Err(Kind::Missing(Need::Dim));
     };
-    let x = is_walled(dims, 0, &tables.axes.x);
+    let x = is_walled(dims, 0, &axes.x);
     unless(x, Kind::Missing(Need::Boundaries(0)))?;
-    let y = is_walled(dims, 1, &tables.axes.y);
+    let y = is_walled(dims, 1, &axes.y);
     unless(y, Kind::Missing(Need::Boundaries(1)))?;
-    let z = is_walled(dims, 2, &tables.axes.z);
+    let z = is_walled(dims, 2, &axes.z);
     unless(z, Kind::Missing(Need::Boundaries(2)))?;
-    let Some(stop) = tables.stop else {
+    let Some(stop) = times.stop else {
         return Err(Kind::Missing(Need::TimeStop));
     };
-    let Some(step) = tables.step else {
+    let Some(step) = times.step else {
         return Err(Kind::Missing(Need::TimeStep));
     };
     Ok(Needed { dims, stop, step })
@@ -190,7 +191,7 @@ pub struct Parts {
 
 // The parts of a draft, as long as the steps are few, the difsteps small and the probabilities no more than 1.
 fn parts_of(alloc: Global, needed: Needed, tables: &Tables) -> Result<Parts, Refusal>
-    requires start { IfSome tables.now.start (λ time. unsigned_abs time ≤ latest) }
+    requires start { IfSome tables.now.times.start (λ time. unsigned_abs time ≤ latest) }
     requires stop { unsigned_abs needed.stop ≤ latest }
     requires step { unsigned_abs needed.step ≤ latest }
     requires step_above { pos 0 <ℤ needed.step }
@@ -199,7 +200,7 @@ fn parts_of(alloc: Global, needed: Needed, tables: &Tables) -> Result<Parts, Ref
     requires z { IfSome tables.now.axes.z AreSmall }
     requires species { length tables.now.species.names ≤ most_species }
     requires kept { IsKept tables.now.reactions }
-    ensures start { IfOk result (λ parts. parts.start ≡ started tables.now.start) }
+    ensures start { IfOk result (λ parts. parts.start ≡ started tables.now.times.start) }
     ensures species { IfOk result (λ parts. parts.species
         ≡ species_made needed.step tables.now.species.motions.items 0 tables.now.species.names) }
     ensures walls { IfOk result (λ parts. parts.walls ≡ walls_of tables.now.axes) }
@@ -211,7 +212,7 @@ fn parts_of(alloc: Global, needed: Needed, tables: &Tables) -> Result<Parts, Ref
     ensures refused { (kind : TheKind) (before : List Said) → result ≡ Err (At kind) → Holds tables.now before
         → bounded (chances_of (reactions_said before)) (content_of needed before) ≡ Err kind }
 {
-    let start = tables.start.unwrap_or(0);
+    let start = tables.times.start.unwrap_or(0);
     let few = last_step(start, needed.stop, needed.step) <= MOST_STEPS;
     unless(few, Kind::TooMany)?;
     let species = make_species(alloc, &tables.species, needed.step)?;
@@ -259,7 +260,7 @@ fn drafted(needed: Needed, parts: Parts, tables: Tables) -> Draft
 
 // What the lines make together, as long as the steps are few, the difsteps small and the probabilities no more than 1.
 fn draft_of(alloc: Global, needed: Needed, tables: Tables) -> Result<Draft, Refusal>
-    requires start { IfSome tables.start (λ time. unsigned_abs time ≤ latest) }
+    requires start { IfSome tables.times.start (λ time. unsigned_abs time ≤ latest) }
     requires stop { unsigned_abs needed.stop ≤ latest }
     requires step { unsigned_abs needed.step ≤ latest }
     requires step_above { pos 0 <ℤ needed.step }
@@ -300,7 +301,7 @@ pub fn finish(alloc: Global, tables: Tables) -> Result<Config, Refusal>
     ensures refused { (kind : TheKind) (before : List Said) → result ≡ Err (At kind) → Holds tables before
         → closed_in before ≡ Err (fault_at 0 kind) }
 {
-    let needed = needed_in(&tables)?;
+    let needed = needed_from(&tables.axes, &tables.times)?;
     let draft = draft_of(alloc, needed, tables)?;
     let draft = bounded(draft)?;
     Ok(Config::of(draft))

@@ -1,8 +1,8 @@
-use Rattle.std.proofs.Common.{◌≡◌, ◌≤◌, length, drop, refl, ap, ◌∙◌, arith}
+use Rattle.std.proofs.Common.{◌≡◌, ◌≤◌, length, drop, ◌∙◌, arith}
 use Rattle.std.proofs.lemmas.List.{drop_all}
 use Rattle.std.proofs.lemmas.Result.{err_from_is_err_and}
 use Rattle.smol_text.specs.Spans.{stated_lines}
-use Rattle.smol_config.specs.Reader.{config_from, read_from}
+use Rattle.smol_config.specs.Reader.{config_from}
 use Rattle.smol_config.specs.Whole.{whole_in}
 use Rattle.smol_config.proofs.Reading.{config_from-whole, ready, told_behind, whole_accepted, whole_refused}
 use Rattle.smol_config.proofs.reader.read_lines.Goals as goal

@@ -64,7 +64,7 @@ returns-clause-shared c =
 pub returns-clause-start : goal.returns-clause-start
 returns-clause-start c =
     let tables = c.args.tables.now in
-    ap (λ (t : ℤ). to_z w64 (of_z w64 t)) c.unwrap_or-start.ensures ∙ time_kept (unwrap_or tables.start (pos 0)) (start_within tables.start c.requires.start)
+    ap (λ (t : ℤ). to_z w64 (of_z w64 t)) c.unwrap_or-start.ensures ∙ time_kept (unwrap_or tables.times.start (pos 0)) (start_within tables.times.start c.requires.start)
 
 pub returns-clause-species : goal.returns-clause-species
 returns-clause-species c =

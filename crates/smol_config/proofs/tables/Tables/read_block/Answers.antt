@@ -2,7 +2,6 @@ use Rattle.std.proofs.Common.{◌≡◌, Err, sym, subst}
 use Rattle.smol_text.specs.Spans.{stated_lines}
 use Rattle.smol_types.specs.declared.fault.Kind.TheVariants.{BadOrder}
 use Rattle.smol_line.specs.declared.refusal.Refusal.TheVariants.{At}
-use Rattle.smol_blocks.specs.declared.block_statement.BlockStatement.TheVariants.{StartSurface, StartCompartment}
 use Rattle.smol_blocks.specs.declared.statement.Statement.TheVariants.{Block}
 use Rattle.smol_config.specs.Reader.{statement_in}
 use Rattle.smol_config.proofs.BlockRead.{compartment_reads, line_refused, surface_reads}
