@@ -9,10 +9,9 @@ use Rattle.smol_geom.specs.declared.place.Place.{Place}
 use Rattle.smol_geom.specs.Axes.{EachAxis, on_axis}
 use Rattle.smol_cells.specs.declared.boxes.Boxes.{Boxes}
 use Rattle.smol_cells.specs.declared.grid.Grid.{Grid}
-use Rattle.smol_cells.specs.Numbered.{boxes_between, number_on}
+use Rattle.smol_cells.specs.Numbered.{IsFilled, boxes_between, number_on}
 use Rattle.smol_cells.specs.Placed.{AreInOrder, IsInRow, nowhere, place_at}
-use Rattle.smol_cells.proofs.NumberLemmas.{number_up}
-use Rattle.smol_cells.proofs.RunLemmas.{number_below}
+use Rattle.smol_cells.proofs.NumberLemmas.{number_below, number_up}
 use Rattle.smol_pairs.specs.declared.search.Search.{Search}
 use Rattle.smol_pairs.specs.Searching.{AreBoxesIn, IsIn, IsInLayer, first_on, last_on, number_in, place_in}
 use Rattle.smol_pairs.specs.Seekers.{no_seeker, place_of}
@@ -37,6 +36,14 @@ module _ (grid : Grid) (c : Cuboid) where
       on : (axis : ℕ) → (on_axis c.low axis ≤ℤ on_axis place.0 axis) × (on_axis place.0 axis ≤ℤ on_axis c.high axis)
           → (number_on grid c.low axis ≤ number_on grid place.0 axis) × (number_on grid place.0 axis ≤ number_on grid c.high axis)
       on axis is = (number_up grid axis (on_axis c.low axis) (on_axis place.0 axis) is.0, number_up grid axis (on_axis place.0 axis) (on_axis c.high axis) is.1)
+
+-- a cuboid that has a place isn't empty
+pub filled_by : (c : Cuboid) (place : Place) → IsIn c place → IsFilled c
+filled_by c place is = (on 0 is.0, on 1 is.1, on 2 is.2)
+  where
+    on : (axis : ℕ) → (on_axis c.low axis ≤ℤ on_axis place.0 axis) × (on_axis place.0 axis ≤ℤ on_axis c.high axis)
+        → on_axis c.low axis ≤ℤ on_axis c.high axis
+    on axis is = omega (arith, ints, is.0, is.1)
 
 module _ (search : Search) where
   abbrev places : List Place
