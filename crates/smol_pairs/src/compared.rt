@@ -97,13 +97,41 @@ fn found_by_both<R: Threads + Sync>(
 }
 
 #[test]
-fn boxes_find_what_all_pairs_find(rt: HostRuntime) -> Result<(), Fail> {
+fn a_crowd_is_searched_alike(rt: HostRuntime) -> Result<(), Fail> {
     let alloc = rt.alloc();
     let config = tested_box(alloc)?;
     assert_eq!(rt; found_by_both(&rt, alloc, &config, &CROWD)?, Some(11));
+    Ok(())
+}
+
+#[test]
+fn molecules_as_far_apart_as_radii_are_searched_alike(rt: HostRuntime) -> Result<(), Fail> {
+    let alloc = rt.alloc();
+    let config = tested_box(alloc)?;
     assert_eq!(rt; found_by_both(&rt, alloc, &config, &LATTICE)?, Some(31));
+    Ok(())
+}
+
+#[test]
+fn molecules_beyond_walls_are_searched_alike(rt: HostRuntime) -> Result<(), Fail> {
+    let alloc = rt.alloc();
+    let config = tested_box(alloc)?;
     assert_eq!(rt; found_by_both(&rt, alloc, &config, &OUTSIDE)?, Some(6));
+    Ok(())
+}
+
+#[test]
+fn molecules_of_which_one_is_far_away_are_searched_alike(rt: HostRuntime) -> Result<(), Fail> {
+    let alloc = rt.alloc();
+    let config = tested_box(alloc)?;
     assert_eq!(rt; found_by_both(&rt, alloc, &config, &FAR)?, Some(5));
+    Ok(())
+}
+
+#[test]
+fn molecules_at_one_place_are_searched_alike(rt: HostRuntime) -> Result<(), Fail> {
+    let alloc = rt.alloc();
+    let config = tested_box(alloc)?;
     assert_eq!(rt; found_by_both(&rt, alloc, &config, &TOGETHER)?, Some(8));
     Ok(())
 }
