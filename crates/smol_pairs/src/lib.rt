@@ -3,6 +3,8 @@
 
 #[cfg(test)]
 mod all_pairs;
+#[cfg(test)]
+mod compared;
 mod encounter;
 mod finding;
 mod grid;

@@ -128,7 +128,7 @@ fn bindings(alloc: Global) -> Result<Items<Reaction>, AllocError>
 }
 
 // Two species in a box with a panel that reflects both on both faces, and the reactions.
-fn tested_box(alloc: Global) -> Result<Config, AllocError>
+pub fn tested_box(alloc: Global) -> Result<Config, AllocError>
     ensures species { IfOk result (λ config. length config.species ≡ 2) }
     ensures two { IfOk result (λ config. All (λ (reaction : Reaction). length reaction.reactants ≡ 2) config.reactions) }
 {
@@ -177,7 +177,7 @@ fn found<R: Threads + Sync>(
 }
 
 // Which molecules may react, where none of them reacts alone, by a table that is made for it.
-fn met<R: Threads + Sync>(
+pub fn met<R: Threads + Sync>(
     rt: &R,
     alloc: Global,
     config: &Config,
@@ -205,7 +205,7 @@ fn ranks(rank_a: u32, rank_b: u32, reaction: u16) -> Encounter {
 }
 
 // Four A at one place, a B and an A at another one, and an A and a B that the panel hides from each other.
-const TOGETHER: [Mol; 8] = [
+pub const TOGETHER: [Mol; 8] = [
     Mol {
         serial: 1,
         species: 0,
