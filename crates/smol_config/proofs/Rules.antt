@@ -141,7 +141,7 @@ bounds_fit line bounds is =
     let below : low.0 <ℤ high.0 = grind (arith, nat_tests) in
     let made : Bounds = record { low = record { 0 = low.0 }; high = record { 0 = high.0 }; letter = letter.0 } in
     let same : made ≡ bounds = cc in
-    subst (λ (b : Bounds). (unsigned_abs b.low.0 ≤ 1000000000000) × (unsigned_abs b.high.0 ≤ 1000000000000) × (b.low.0 <ℤ b.high.0)) same
+    subst (λ (b : Bounds). (unsigned_abs b.low.0 ≤ 1000000000000) × (unsigned_abs b.high.0 ≤ 1000000000000) × (b.low.0 <ℤ b.high.0)) {x = made} same
     (length_small (word_at line 2) low.0 low.1, length_small (word_at line 3) high.0 high.1, below)
 
 boundaries_keep : (before : List Said) (line : Stated) (given : ℕ × Bounds) → boundaries_in (axes_of before) line ≡ Ok given → IsSoFar before → IsSoFar (walls given.0 given.1 ∷ before)
@@ -163,7 +163,7 @@ boundaries_keep before line given is h =
     let Q : Option ℕ → Type 0 = λ count. IsSomeAnd count (λ count. axis.0 < count) in
     let made : ℕ × Bounds = (axis.0, bounds.0) in
     let same : made ≡ given = cc in
-    subst (λ (g : ℕ × Bounds). IsSoFar (walls g.0 g.1 ∷ before)) same
+    subst (λ (g : ℕ × Bounds). IsSoFar (walls g.0 g.1 ∷ before)) {x = made} same
     (walls_kept before dims.0 axis.0 bounds.0 has used (omega arith) (not_yet (bounds_at axis.0 (axes_of before)) new.0)
     (record { in_use = subst Q (sym has) used; low_size = fit.0; high_size = fit.1; ordered = fit.2 }) h)
 
@@ -216,7 +216,7 @@ coordinates_are known line dims at has walled h is =
     let walls = three (is_walled dims 0 known.x) (is_walled dims 1 known.y) (is_walled dims 2 known.z) walled in
     let range = rw has at h.dims in
     let same : x.0 ∷ y.0 ∷ z.0 ∷ [] ≡ at = cc in
-    subst (λ (at : List Given). (length at ≡ 3) × AreGiven (walls_of known) at) same (
+    subst (λ (at : List Given). (length at ≡ 3) × AreGiven (walls_of known) at) {x = x.0 ∷ y.0 ∷ z.0 ∷ []} same (
       refl,
       are_given dims known.x known.y known.z x.0 y.0 z.0 range.0 walls.0 walls.1 walls.2
           (let Q : Option ℕ → Type 0 = λ dims. IfSome known.y (IsBounded dims 1) in subst Q has h.y)
@@ -241,7 +241,7 @@ mol_keeps before line one is h =
     let lie = coordinates_are (axes_of before) line dims.0 at.0 by.0 by.1 (h the_axes) at.1 in
     let made : Placing = placing.Mol n.0 species.0 at.0 in
     let same : made ≡ one = cc in
-    subst (λ (one : Placing). IsSoFar (places one ∷ before)) same
+    subst (λ (one : Placing). IsSoFar (places one ∷ before)) {x = made} same
     (places_kept before made (is_settled (axes_of before) dims.0 dims.1)
     (count_in-high 0 1000000 (word_at line 1) n.0 n.1, species_word_in-within (species_of before) (word_at line 2) species.0 species.1, lie.0, lie.1) h)
 
@@ -265,7 +265,7 @@ compartment_mol_keeps before line one is outside h =
     let closed = compartments_closed (dims_of before) (blocks_said before) (h the_blocks) outside in
     let made : Placing = placing.InCompartment line.number n.0 species.0 compartment.0 in
     let same : made ≡ one = cc in
-    subst (λ (one : Placing). IsSoFar (places one ∷ before)) same
+    subst (λ (one : Placing). IsSoFar (places one ∷ before)) {x = made} same
     (places_kept before made (is_settled (axes_of before) dims.0 dims.1)
     (count_in-high 0 1000000 (word_at line 1) n.0 n.1, species_word_in-within (species_of before) (word_at line 2) species.0 species.1, omega arith) h)
 

@@ -72,7 +72,7 @@ needed_is before needed is =
     let made : Needed = record { dims = dims.0; stop = stop.0; step = step.0 } in
     let same : made ≡ needed = cc in
     subst (λ (needed : Needed). (dims_of before ≡ Some needed.dims) × (is_walled needed.dims 0 (bounds_of 0 before) ≡ true) × (is_walled needed.dims 1 (bounds_of 1 before) ≡ true) × (is_walled needed.dims 2 (bounds_of 2 before) ≡ true)
-    × (time_stop_of before ≡ Some needed.stop) × (time_step_of before ≡ Some needed.step)) same (
+    × (time_stop_of before ≡ Some needed.stop) × (time_step_of before ≡ Some needed.step)) {x = made} same (
       is_there (dims_of before) (kind.Missing need.Dim) dims.0 dims.1,
       holds (is_walled dims.0 0 (bounds_of 0 before)) (kind.Missing (need.Boundaries 0)) a.0,
       holds (is_walled dims.0 1 (bounds_of 1 before)) (kind.Missing (need.Boundaries 1)) b.0,

@@ -51,10 +51,11 @@ seen tables = record {
 }
 
 -- the tables of reactions and of blocks hold what is said of these, and their parts fit each other
-pub record HoldGroups (of_reactions : Reactions) (of_blocks : Blocks) (said_of_reactions : List ReactionSaid) (said_of_blocks : List BlockSaid) : Type 0 where
-  pub reactions : HoldsReactions of_reactions said_of_reactions
+pub record HoldGroups (of_reactions : Reactions) (of_blocks : Blocks) (reactions_told : List ReactionSaid) (blocks_told : List BlockSaid)
+    : Type 0 where
+  pub reactions : HoldsReactions of_reactions reactions_told
   pub kept : IsKept of_reactions
-  pub blocks : HoldsBlocks of_blocks said_of_blocks
+  pub blocks : HoldsBlocks of_blocks blocks_told
   pub blocks_kept : AreBlocksKept of_blocks
 
 -- the tables hold what the lines so far say: each plain table is its look-up

@@ -242,6 +242,7 @@ impl Tables {
         requires apart { (one : TheBlockStatement) → statement ≢ Block one }
         ensures { Reads (statement_in statement) line.now self.old self.new result }
     {
+        let given = self.times;
         match statement {
             Statement::PassedOver => Ok(()),
             Statement::NotInProfile => Err(Refusal::At(Kind::NotInProfile)),
@@ -250,15 +251,9 @@ impl Tables {
             Statement::Species => self.read_species(alloc, line),
             Statement::Difc => self.read_difc(line),
             Statement::Difstep => self.read_difstep(line),
-            Statement::TimeStart => keep(
-                times::judge(self.times.start, line),
-                &mut self.times.start,
-            ),
-            Statement::TimeStop => keep(times::judge(self.times.stop, line), &mut self.times.stop),
-            Statement::TimeStep => keep(
-                times::judge_step(self.times.step, line),
-                &mut self.times.step,
-            ),
+            Statement::TimeStart => keep(times::judge(given.start, line), &mut self.times.start),
+            Statement::TimeStop => keep(times::judge(given.stop, line), &mut self.times.stop),
+            Statement::TimeStep => keep(times::judge_step(given.step, line), &mut self.times.step),
             Statement::MaxMol => keep(max_mol::judge(self.max_mol, line), &mut self.max_mol),
             Statement::RandomSeed => keep(random_seed::judge(self.seed, line), &mut self.seed),
             Statement::Boundaries => self.read_boundaries(line),
