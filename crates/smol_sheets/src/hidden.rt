@@ -5,7 +5,7 @@ ghost use Rattle.smol_meaning.specs.Sight.{is_below, passes};
 ghost use Rattle.smol_meaning.specs.Sighted.{IsPlaceWithin};
 
 use crate::Panels;
-use crate::sheet::{axis_of, line_meets, plane_of};
+use crate::sheet::{across, line_meets};
 use smol_geom::Place;
 use smol_meaning::{Response, Sheet};
 use smol_types::Mol;
@@ -79,5 +79,6 @@ fn is_below(sheet: &Sheet, place: &Place) -> bool
     requires place { IsPlaceWithin (2 ^ 58) place.now }
     ensures { result ≡ is_below sheet.now place.now }
 {
-    place.0[axis_of(sheet) as usize] < plane_of(sheet)
+    let (axis, plane) = across(sheet);
+    place.0[axis as usize] < plane
 }

@@ -7,4 +7,4 @@ mod panels;
 mod sheet;
 
 pub use panels::Panels;
-pub use sheet::{axis_of, line_meets, plane_of};
+pub use sheet::{across, line_meets};

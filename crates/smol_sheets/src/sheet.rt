@@ -10,28 +10,18 @@ ghost use Rattle.smol_meaning.specs.Sighted.{IsPlaceWithin};
 use smol_geom::Place;
 use smol_meaning::{Sheet, meets_panel, meets_wall};
 
-/// The axis that a panel or a wall lies across.
-pub fn axis_of(sheet: &Sheet) -> u8
+/// The axis that a panel or a wall lies across, and its one coordinate there, in ticks.
+pub fn across(sheet: &Sheet) -> (u8, i64)
     requires { IsSheet sheet.now }
-    ensures value { result ≡ sheet_axis sheet.now }
-    ensures axis { result < 3 }
+    ensures axis { result.0 ≡ sheet_axis sheet.now }
+    ensures axis_below { result.0 < 3 }
+    ensures plane { result.1 ≡ sheet_plane sheet.now }
+    ensures size { unsigned_abs result.1 ≤ farthest }
+    ensures even { IsEven result.1 }
 {
     match sheet {
-        Sheet::Rectangle { rect } => rect.axis,
-        Sheet::Plane { axis, .. } => *axis,
-    }
-}
-
-/// Its one coordinate on that axis, in ticks.
-pub fn plane_of(sheet: &Sheet) -> i64
-    requires { IsSheet sheet.now }
-    ensures value { result ≡ sheet_plane sheet.now }
-    ensures size { unsigned_abs result ≤ farthest }
-    ensures even { IsEven result }
-{
-    match sheet {
-        Sheet::Rectangle { rect } => rect.low[rect.axis as usize],
-        Sheet::Plane { plane, .. } => *plane,
+        Sheet::Rectangle { rect } => (rect.axis, rect.low[rect.axis as usize]),
+        Sheet::Plane { axis, plane } => (*axis, *plane),
     }
 }
 

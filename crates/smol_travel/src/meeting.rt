@@ -14,7 +14,7 @@ use crate::coordinates::{ticks_to, unfolded};
 use crate::leg::{Leg, Span, is_still, span_of};
 use smol_geom::{Moment, holds_at, moment_before};
 use smol_meaning::Sheet;
-use smol_sheets::{Panels, axis_of, plane_of};
+use smol_sheets::{Panels, across};
 
 // The first moment after the last one at which a panel or a wall is met, where there is one.
 pub fn next_meeting(panels: &Panels, leg: &Leg, last: &Moment) -> Option<Moment>
@@ -68,7 +68,8 @@ fn meeting_in_span(sheet: &Sheet, span: &Span, leg: &Leg, last: &Moment) -> Opti
     ensures later { IfSome result (λ m. ComesLater leg.now last.now m) }
     ensures only { (m : Moment) → ComesLater leg.now last.now m → meets leg.now m sheet.now ≡ true → result ≡ Some m }
 {
-    if is_in_span(span, axis_of(sheet), plane_of(sheet)) {
+    let (axis, plane) = across(sheet);
+    if is_in_span(span, axis, plane) {
         meeting(sheet, leg, last)
     } else {
         None
@@ -92,7 +93,8 @@ fn meeting(sheet: &Sheet, leg: &Leg, last: &Moment) -> Option<Moment>
     ensures later { IfSome result (λ m. ComesLater leg.now last.now m) }
     ensures only { (m : Moment) → ComesLater leg.now last.now m → meets leg.now m sheet.now ≡ true → result ≡ Some m }
 {
-    let moment = moment_at(axis_of(sheet), plane_of(sheet), leg)?;
+    let (axis, plane) = across(sheet);
+    let moment = moment_at(axis, plane, leg)?;
     if comes_before(last, &moment) && is_within_edges(sheet, leg, &moment) {
         Some(moment)
     } else {
@@ -141,7 +143,8 @@ fn is_at(sheet: &Sheet, axis: u8, plane: i64) -> bool
     requires { IsSheet sheet.now }
     ensures { IsTrue result ↔ ((axis ≡ sheet_axis sheet.now) × (plane ≡ sheet_plane sheet.now)) }
 {
-    axis == axis_of(sheet) && plane == plane_of(sheet)
+    let own = across(sheet);
+    own.0 == axis && own.1 == plane
 }
 
 // Whether the edges of a panel hold the true point of a moment at which it is on the panel's plane. A wall has no edges.

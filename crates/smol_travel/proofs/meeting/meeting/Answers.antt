@@ -1,4 +1,4 @@
-use Rattle.std.proofs.Common.{◌∙◌, ap, sym, FitsSigned, w64}
+use Rattle.std.proofs.Common.{◌∙◌, ap, sym, FitsSigned, w64, rules}
 use Rattle.std.proofs.lemmas.Bool.{both_ways}
 use Rattle.std.proofs.lemmas.Int.{to_z-of_z}
 use Rattle.smol_geom.specs.declared.moment.Moment.{Moment}
@@ -12,23 +12,23 @@ use Rattle.smol_travel.proofs.meeting.meeting.Goals.{else-comes_before-via-then-
 pub returns-in_err-moment-clause-only : goal.returns-in_err-moment-clause-only
 returns-in_err-moment-clause-only c = λ m h e.
     let at = met_at c.args.leg.now c.requires.leg m h.moment c.args.sheet.now c.requires.sheet e in
-    let fits : FitsSigned w64 c.plane_of.result = record { sfits = c.plane_of.type_inv } in
+    let fits : FitsSigned w64 c.across-axis.result.1 = search rules in
     let only = simp (to_z-of_z, fits) at c.in_err-moment.ensures.only in
-    c.from_residual.ensures ∙ only m h.moment (at.0 ∙ sym c.axis_of.ensures.value) (at.1 ∙ sym c.plane_of.ensures.value)
+    c.from_residual.ensures ∙ only m h.moment (at.0 ∙ sym c.across-axis.ensures.axis) (at.1 ∙ sym c.across-axis.ensures.plane)
 
 pub returns-then-is_within_edges-clause-only : goal.returns-then-is_within_edges-clause-only
 returns-then-is_within_edges-clause-only c = λ m h e.
     let at = met_at c.args.leg.now c.requires.leg m h.moment c.args.sheet.now c.requires.sheet e in
-    let fits : FitsSigned w64 c.plane_of.result = record { sfits = c.plane_of.type_inv } in
+    let fits : FitsSigned w64 c.across-axis.result.1 = search rules in
     let only = simp (to_z-of_z, fits) at c.in_ok-moment.ensures.only in
-    only m h.moment (at.0 ∙ sym c.axis_of.ensures.value) (at.1 ∙ sym c.plane_of.ensures.value)
+    only m h.moment (at.0 ∙ sym c.across-axis.ensures.axis) (at.1 ∙ sym c.across-axis.ensures.plane)
 
 pub returns-else-comes_before-clause-only : goal.returns-else-comes_before-clause-only
 returns-else-comes_before-clause-only c = λ m h e.
     let at = met_at c.args.leg.now c.requires.leg m h.moment c.args.sheet.now c.requires.sheet e in
-    let fits : FitsSigned w64 c.plane_of.result = record { sfits = c.plane_of.type_inv } in
+    let fits : FitsSigned w64 c.across-axis.result.1 = search rules in
     let only = simp (to_z-of_z, fits) at c.in_ok-moment.ensures.only in
-    let is = ap (some_or c.in_ok-moment.moment) (only m h.moment (at.0 ∙ sym c.axis_of.ensures.value) (at.1 ∙ sym c.plane_of.ensures.value)) in
+    let is = ap (some_or c.in_ok-moment.moment) (only m h.moment (at.0 ∙ sym c.across-axis.ensures.axis) (at.1 ∙ sym c.across-axis.ensures.plane)) in
     elim c.else-comes_before.branch [
       | else-comes_before-via-then-comes_before+else-is_within_edges w ↦
           absurd (both_ways (meets c.args.leg.now c.in_ok-moment.moment c.args.sheet.now) (sym w.is_within_edges.ensures ∙ w.if-is_within_edges.false)

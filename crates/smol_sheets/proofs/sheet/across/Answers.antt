@@ -5,7 +5,7 @@ use Rattle.smol_geom.proofs.Sizes.{small_fits}
 use Rattle.smol_meaning.specs.declared.sheet.Sheet.TheVariants.{Rectangle}
 use Rattle.smol_meaning.specs.Folds.{IsSheet}
 use Rattle.smol_meaning.proofs.Bounds.{plane_small}
-use Rattle.smol_sheets.proofs.sheet.plane_of.Goals as goal
+use Rattle.smol_sheets.proofs.sheet.across.Goals as goal
 
 pub returns-in-Rectangle-clause-size : goal.returns-in-Rectangle-clause-size
 returns-in-Rectangle-clause-size c =
