@@ -65,6 +65,23 @@ between_starts size number starts first last q are in_first in_last = (
   λ h. ((are first in_first).from q h.0 h.1.0, (are (last + 1) in_last).before q h.0 (omega (arith, h.1.1))),
 )
 
+-- a later box starts no earlier
+pub starts_rise : (size : ℕ) (number : ℕ → ℕ) (starts : List ℕ) (first next : ℕ) → AreStarts size number starts → first ≤ next → next < length starts
+    → get_or starts first 0 ≤ get_or starts next 0
+starts_rise size number starts first next are up in_next =
+    let low = are first (omega arith) in
+    let high = are next in_next in
+    let at = get_or starts next 0 in
+    ⊎_elim
+    (λ (less : at < get_or starts first 0).
+    let inside : at < size = omega (arith, low.inside, less) in
+    ⊎_elim
+    (λ (lower : number at < first). let before = high.before at inside (omega (arith, lower, up)) in absurd (omega (arith, before)))
+    (λ (above : first ≤ number at). let from = low.from at inside above in absurd (omega (arith, from, less)))
+    (cases_lt (number at) first))
+    (λ (up_to : get_or starts first 0 ≤ at). up_to)
+    (cases_lt at (get_or starts first 0))
+
 module _ (grid : Grid) where
   pub run_holds : (places : List Place) (starts : List ℕ) (first last row layer q : ℕ)
       → length starts ≡ product grid.counts + 1 → AreStarts (length places) (λ p. box_of_place grid (place_at places p)) starts
@@ -84,4 +101,16 @@ module _ (grid : Grid) where
             (held.0, record { on_z = is.on_z; on_y = is.on_y; from = is.from; to = is.to }),
         λ h. let is : IsBetween first last row layer x y z = record { on_z = h.1.on_z; on_y = h.1.on_y; from = h.1.from; to = h.1.to } in
             both.1 (h.0, row_of_between grid.counts first last row layer x y z is),
+      )
+
+  pub run_within : (places : List Place) (starts : List ℕ) (first last row layer : ℕ)
+      → length starts ≡ product grid.counts + 1 → AreStarts (length places) (λ p. box_of_place grid (place_at places p)) starts
+      → first ≤ last → last < count_on grid.counts 0 → row < count_on grid.counts 1 → layer < count_on grid.counts 2
+      → (get_or starts (box_at grid.counts first row layer) 0 ≤ get_or starts (box_at grid.counts last row layer + 1) 0)
+      × (get_or starts (box_at grid.counts last row layer + 1) 0 ≤ length places)
+  run_within places starts first last row layer long are up in_last in_row in_layer =
+      let below = box_below grid.counts last row layer in_last in_row in_layer in
+      let inside : box_at grid.counts last row layer + 1 < length starts = omega (arith, below, long) in (
+        starts_rise (length places) (λ p. box_of_place grid (place_at places p)) starts (box_at grid.counts first row layer) (box_at grid.counts last row layer + 1) are (omega arith) inside,
+        (are (box_at grid.counts last row layer + 1) inside).inside,
       )

@@ -45,6 +45,7 @@ impl Cells {
         // Of places in order the positions are exactly those at which the place's box is one of these.
         ensures holds { (places : List Place) → AreInOrder places self.now → (q : ℕ)
             → ((result.start ≤ q) × (q < result.end)) ↔ ((q < length places) × IsInRow self.now.grid first last row layer (place_at places q)) }
+        ensures within { (places : List Place) → AreInOrder places self.now → (result.start ≤ result.end) × (result.end ≤ length places) }
     {
         let first = self.grid.number_at(first, row, layer);
         let last = self.grid.number_at(last, row, layer);
