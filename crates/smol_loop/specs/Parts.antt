@@ -1,13 +1,27 @@
--- How a part of a run is made: how it ends, what outlets are given in it, and what becomes of their count of faults.
-use Rattle.std.specs.Prelude.{◌≡◌, ℕ, ◌+◌, List, [], ◌∷◌, Result, Ok, Err}
-use Rattle.smol_edge.specs.Faults.{Rose}
+-- How a part of a run is made: what it needs, how it ends, what outlets are given in it, and what becomes of their count of faults.
+use Rattle.std.specs.Prelude.{◌≡◌, ℕ, ◌+◌, List, [], ◌∷◌, length, replicate, Option, Result, Ok, Err}
+use Rattle.smol_edge.specs.Faults.{Rose, Tells}
 use Rattle.smol_edge.specs.Outlets.{Piece, Written, Appends, AppendsFrontOf}
+use Rattle.smol_types.specs.declared.command.Phase.TheVariants as phase
+use Rattle.smol_types.specs.declared.draft.Draft.{Draft}
 use Rattle.smol_types.specs.declared.state.State.{State}
-use Rattle.smol_meaning.specs.Stretch.{Over, Stretch}
+use Rattle.smol_types.specs.Sound.{IsSound}
+use Rattle.smol_types.specs.State.{Fits}
+use Rattle.smol_meaning.specs.Run.{phase_of, step_of, steps_from, steps_of}
+use Rattle.smol_meaning.specs.Stretch.{Over, Stretch, followed_by}
 use Rattle.smol_commands.specs.declared.flow.Flow.{Flow}
 use Rattle.smol_commands.specs.Performs.{ending_of}
+use Rattle.smol_loop.specs.declared.held.Held.{Held}
 use Rattle.smol_loop.specs.declared.run_fault.RunFault.{RunFault}
 use Rattle.smol_loop.specs.declared.run_fault.RunFault.TheVariants as fault
+
+-- what a part of a run needs: a state that fits, the words of the seed, blank pages, and the files of the draft opened
+pub record IsReady (draft : Draft) (seed opened : ℕ) (held : Held) : Type 0 where
+  pub sound : IsSound draft
+  pub fits : Fits draft held.state
+  pub words : held.streams ≡ seed
+  pub blank : held.pages ≡ replicate (2 + length draft.outputs) []
+  pub files : opened ≡ length draft.outputs
 
 -- the state is the last one of a part, and the part ends so. Of a part that a failing write or want of memory cut off nothing is told
 abbrev pub EndsPart : Stretch → State → Result Flow RunFault → Type 0
@@ -32,6 +46,20 @@ CountsFault (Err (fault.NoPlace line serial)) before after = after ≡ before
 CountsFault (Err (fault.TooManyMolecules step)) before after = after ≡ before
 CountsFault (Err fault.OutputFault) before after = Rose before after
 CountsFault (Err fault.OutOfMemory) before after = after ≡ before
+
+-- what a part of a run leaves: its last state with its ending, its pieces in what outlets tell, and their count of faults
+pub record Leaves (part : Stretch) (result : Result Flow RunFault) (last : State) (told tells : Option Written) (before after : ℕ) : Type 0 where
+  pub ended : EndsPart part last result
+  pub given : Tells told tells (GivesPart part.pieces result)
+  pub faults : CountsFault result before after
+
+-- the commands that are due at a state, and the step after it
+abbrev pub one_step : Draft → ℕ → State → Stretch
+one_step draft seed state = followed_by (phase_of draft seed (phase.At state.step) state) (step_of draft seed)
+
+-- the commands before the first step, and the steps
+abbrev pub up_to_end : Draft → ℕ → State → Stretch
+up_to_end draft seed opening = followed_by (phase_of draft seed phase.Before opening) (steps_from draft seed (steps_of draft))
 
 -- pages with their outlets, of which the first has this number
 abbrev pub on_pages : ℕ → List (List ℕ) → List Piece

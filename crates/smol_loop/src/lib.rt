@@ -3,6 +3,8 @@
 
 mod commands;
 mod faults;
+mod held;
+mod run;
 mod run_fault;
 mod simulation;
 mod stepping;

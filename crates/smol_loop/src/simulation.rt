@@ -1,15 +1,13 @@
-ghost use Rattle.std.specs.Prelude.{◌≡◌, ◌≢◌, ◌+◌, ◌≤◌, [], IsErrOf, OnOk, length, replicate};
+ghost use Rattle.std.specs.Prelude.{◌≡◌, ◌≢◌, ◌≤◌, IsErrOf, OnOk, length};
 ghost use Rattle.smol_edge.specs.Faults.{Rose, Tells};
-ghost use Rattle.smol_types.specs.Sound.{IsSound};
-ghost use Rattle.smol_types.specs.State.{Fits};
-ghost use Rattle.smol_types.specs.declared.command.Phase.TheVariants as phase;
-ghost use Rattle.smol_meaning.specs.Run.{course, phase_of, run_of, steps_from, steps_of};
-ghost use Rattle.smol_meaning.specs.Stretch.{followed_by};
-ghost use Rattle.smol_loop.specs.Parts.{CountsFault, EndsPart, GivesPart};
+ghost use Rattle.smol_meaning.specs.Run.{course, run_of};
+ghost use Rattle.smol_loop.specs.Parts.{IsReady, Leaves, up_to_end};
 ghost use Rattle.smol_loop.specs.Simulation.{EndsAs, Prints};
 
-use crate::commands::{blank_pages, perform_due};
+use crate::commands::{outlet_count, perform_due};
 use crate::faults::fault_of_placing;
+use crate::held::Held;
+use crate::run::{Run, Team};
 use crate::run_fault::RunFault;
 use crate::stepping::make_steps;
 use smol_commands::Flow;
@@ -18,49 +16,30 @@ use smol_edge::{Gate, Outlets};
 use smol_print::Pages;
 use smol_step::{Panels, Setup};
 use smol_streams::Streams;
-use smol_types::{Config, Phase, State};
+use smol_types::{Config, Phase};
 use std::alloc::Global;
 use std::thread::Threads;
 
 // Performs the commands before the first step, and makes all steps.
 fn begin_and_step<R: Threads + Sync, K: Outlets, G: Gate + Sync>(
-    rt: &R,
-    alloc: Global,
-    config: &Config,
-    setup: &Setup,
-    seed: u64,
-    workers: u32,
-    gate: &G,
-    state: &mut State,
-    streams: &mut Streams,
-    pages: &mut Pages,
+    team: &Team<R, G>,
+    run: &Run,
+    held: &mut Held,
     outlets: &mut K,
 ) -> Result<Flow, RunFault>
-    requires sound { IsSound config.now }
-    requires setup { setup.now ≡ config.now }
-    requires fits { Fits config.now state.old }
-    requires first { state.old.step ≡ 0 }
-    requires room { state.old.next ≤ 1000001 }
-    requires seed { streams.old ≡ seed }
-    requires blank { pages.old ≡ replicate (2 + length config.now.outputs) [] }
-    requires opened { K.opened outlets.old ≡ length config.now.outputs }
+    requires ready { IsReady run.now.setup.now run.now.seed (K.opened outlets.old) held.old }
+    requires first { held.old.state.step ≡ 0 }
+    requires room { held.old.state.next ≤ 1000001 }
 
-    ensures ended { EndsPart (followed_by (phase_of config.now seed phase.Before state.old)
-        (steps_from config.now seed (steps_of config.now))) state.new result }
-    ensures given { Tells (K.told outlets.old) (K.told outlets.new)
-        (GivesPart (followed_by (phase_of config.now seed phase.Before state.old)
-        (steps_from config.now seed (steps_of config.now))).pieces result) }
-    ensures fits { OnOk result (Fits config.now state.new) }
-    ensures serials { OnOk result (state.new.next ≤ 1088000513000001) }
-    ensures blank { OnOk result (pages.new ≡ replicate (2 + length config.now.outputs) []) }
-    ensures opened { K.opened outlets.new ≡ K.opened outlets.old }
-    ensures faults { CountsFault result (K.faults outlets.old) (K.faults outlets.new) }
-    ensures seed { streams.new ≡ streams.old }
+    ensures left { Leaves (up_to_end run.now.setup.now run.now.seed held.old.state) result held.new.state
+        (K.told outlets.old) (K.told outlets.new) (K.faults outlets.old) (K.faults outlets.new) }
+    ensures ready { OnOk result (IsReady run.now.setup.now run.now.seed (K.opened outlets.new) held.new) }
+    ensures serials { OnOk result (held.new.state.next ≤ 1088000513000001) }
+    ensures opened { K.opened outlets.new ≡ length run.now.setup.now.outputs }
+    ensures seed { held.new.streams ≡ run.now.seed }
 {
-    match perform_due(alloc, config, Phase::Before, state, streams, pages, outlets) {
-        Ok(Flow::Go) => make_steps(
-            rt, alloc, config, setup, seed, workers, gate, state, streams, pages, outlets,
-        ),
+    match perform_due(run, Phase::Before, held, outlets) {
+        Ok(Flow::Go) => make_steps(team, run, held, outlets),
         Ok(Flow::Stop) => Ok(Flow::Stop),
         Err(fault) => Err(fault),
     }
@@ -68,36 +47,21 @@ fn begin_and_step<R: Threads + Sync, K: Outlets, G: Gate + Sync>(
 
 // Runs a configuration from its opening state on.
 fn run_on<R: Threads + Sync, K: Outlets, G: Gate + Sync>(
-    rt: &R,
-    alloc: Global,
-    config: &Config,
-    setup: &Setup,
-    seed: u64,
-    workers: u32,
-    gate: &G,
-    state: &mut State,
-    streams: &mut Streams,
-    pages: &mut Pages,
+    team: &Team<R, G>,
+    run: &Run,
+    held: &mut Held,
     outlets: &mut K,
 ) -> Result<Flow, RunFault>
-    requires sound { IsSound config.now }
-    requires setup { setup.now ≡ config.now }
-    requires fits { Fits config.now state.old }
-    requires first { state.old.step ≡ 0 }
-    requires room { state.old.next ≤ 1000001 }
-    requires seed { streams.old ≡ seed }
-    requires blank { pages.old ≡ replicate (2 + length config.now.outputs) [] }
-    requires opened { K.opened outlets.old ≡ length config.now.outputs }
+    requires ready { IsReady run.now.setup.now run.now.seed (K.opened outlets.old) held.old }
+    requires first { held.old.state.step ≡ 0 }
+    requires room { held.old.state.next ≤ 1000001 }
 
-    ensures ended { EndsPart (course config.now seed state.old) state.new result }
-    ensures given { Tells (K.told outlets.old) (K.told outlets.new) (GivesPart (course config.now seed state.old).pieces result) }
-    ensures opened { K.opened outlets.new ≡ K.opened outlets.old }
-    ensures faults { CountsFault result (K.faults outlets.old) (K.faults outlets.new) }
+    ensures left { Leaves (course run.now.setup.now run.now.seed held.old.state) result held.new.state
+        (K.told outlets.old) (K.told outlets.new) (K.faults outlets.old) (K.faults outlets.new) }
+    ensures opened { K.opened outlets.new ≡ length run.now.setup.now.outputs }
 {
-    match begin_and_step(
-        rt, alloc, config, setup, seed, workers, gate, state, streams, pages, outlets,
-    ) {
-        Ok(_) => perform_due(alloc, config, Phase::After, state, streams, pages, outlets),
+    match begin_and_step(team, run, held, outlets) {
+        Ok(_) => perform_due(run, Phase::After, held, outlets),
         Err(fault) => Err(fault),
     }
 }
@@ -123,33 +87,24 @@ pub fn simulate<R: Threads + Sync, K: Outlets, G: Gate + Sync>(
     ensures no_fault { (result ≢ Err RunFault.OutputFault) → K.faults outlets.new ≡ K.faults outlets.old }
 {
     let mut streams = Streams::of_seed(seed);
-    let mut state = match place_all(alloc, config, &mut streams) {
+    let state = match place_all(alloc, config, &mut streams) {
         Ok(state) => state,
         Err(fault) => return Err(fault_of_placing(fault)),
     };
-    let Ok(mut pages) = blank_pages(alloc, config) else {
-        return Err(RunFault::OutOfMemory);
-    };
-    let Ok(panels) = Panels::of(alloc, config) else {
-        return Err(RunFault::OutOfMemory);
-    };
-    let Ok(setup) = Setup::of(alloc, config, &panels) else {
-        return Err(RunFault::OutOfMemory);
-    };
-    match run_on(
-        rt,
+    let pages = Pages::open(alloc, outlet_count(config))?;
+    let panels = Panels::of(alloc, config)?;
+    let setup = Setup::of(alloc, config, &panels)?;
+    let run = Run {
         alloc,
-        config,
-        &setup,
+        setup: &setup,
         seed,
-        workers,
-        gate,
-        &mut state,
-        &mut streams,
-        &mut pages,
-        outlets,
-    ) {
-        Ok(_) => Ok(()),
-        Err(fault) => Err(fault),
-    }
+    };
+    let team = Team { rt, workers, gate };
+    let mut held = Held {
+        state,
+        streams,
+        pages,
+    };
+    run_on(&team, &run, &mut held, outlets)?;
+    Ok(())
 }

@@ -56,8 +56,8 @@ impl<'a> Setup<'a> {
         })
     }
 
-    // The configuration.
-    pub(crate) fn config(&self) -> &Config
+    /// The configuration that it is of.
+    pub fn config(&self) -> &Config
         ensures value { result.now ≡ self.now }
         ensures sound { IsSound self.now }
     {

@@ -1,45 +1,59 @@
-use Rattle.std.proofs.Common.{ap, sym, subst, Err}
-use Rattle.smol_edge.specs.Faults.{Tells}
-use Rattle.smol_commands.specs.declared.flow.Flow.{Flow}
+use Rattle.std.proofs.Common.{◌≡◌, ap, sym, subst, Err}
+use Rattle.smol_meaning.specs.Stretch.{Over}
+use Rattle.smol_commands.specs.declared.command_fault.CommandFault.TheVariants as command
 use Rattle.smol_commands.specs.Performs.{performed_at}
 use Rattle.smol_commands.proofs.Effects.{performed_at_prints}
 use Rattle.smol_loop.specs.declared.run_fault.RunFault.{RunFault}
-use Rattle.smol_loop.specs.Parts.{CountsFault, EndsPart, GivesPart}
+use Rattle.smol_loop.specs.Parts.{Leaves}
 use Rattle.smol_loop.proofs.Lone.{command_cut, command_written}
-use Rattle.smol_loop.proofs.ToldFaults.{command_counts, command_ends, command_gives}
+use Rattle.smol_loop.proofs.Phases.{step_stays}
+use Rattle.smol_loop.proofs.ToldFaults.{command_fails}
 use Rattle.smol_loop.proofs.commands.perform_command.Goals as goal
 
-pub returns-in-Ok-write_pages-clause-given : goal.returns-in-Ok-write_pages-clause-given
-returns-in-Ok-write_pages-clause-given g c =
-    command_written _ (performed_at c.args.config.now c.args.streams.now c.args.c c.args.state.now) _ _ _ _
-    (performed_at_prints c.args.config.now c.args.streams.now c.args.c c.args.state.now c.outlet_count-count.ensures.sound)
-    c.requires.blank c.in-Ok.ensures.performed.pages c.in-Ok-write_pages.ensures.appended
+pub returns-in-Ok-write_pages-clause-left : goal.returns-in-Ok-write_pages-clause-left
+returns-in-Ok-write_pages-clause-left g c =
+    let run = c.args.run.now in
+    let ready = c.requires.ready in
+    let performed = rw (c.config-config.ensures.value, ready.words) at c.in-Ok.ensures.performed in
+    record {
+      ended = (performed.state, performed.ending);
+      given = command_written _ (performed_at run.setup.now run.seed c.args.c c.args.held.now.state) _ _ _ _
+          (performed_at_prints run.setup.now run.seed c.args.c c.args.held.now.state ready.sound)
+          ready.blank performed.pages c.in-Ok-write_pages.ensures.appended;
+      faults = c.in-Ok-write_pages.ensures.no_fault;
+    }
 
-pub returns-in-Err-write_pages-clause-given : goal.returns-in-Err-write_pages-clause-given
-returns-in-Err-write_pages-clause-given g c =
-    command_cut _ (performed_at c.args.config.now c.args.streams.now c.args.c c.args.state.now) _ _ _ _
-    (performed_at_prints c.args.config.now c.args.streams.now c.args.c c.args.state.now c.outlet_count-count.ensures.sound)
-    c.requires.blank c.in-Ok.ensures.performed.pages c.in-Err-write_pages.ensures.front_appended
+pub returns-in-Ok-write_pages-clause-step : goal.returns-in-Ok-write_pages-clause-step
+returns-in-Ok-write_pages-clause-step g c =
+    let run = c.args.run.now in
+    let ready = c.requires.ready in
+    let performed = rw (c.config-config.ensures.value, ready.words) at c.in-Ok.ensures.performed in
+    step_stays run.setup.now run.seed c.args.c c.args.held.now.state _ ready.sound ready.fits c.requires.room performed.state
+
+pub returns-in-Err-write_pages-clause-left : goal.returns-in-Err-write_pages-clause-left
+returns-in-Err-write_pages-clause-left g c =
+    let run = c.args.run.now in
+    let ready = c.requires.ready in
+    let performed = rw (c.config-config.ensures.value, ready.words) at c.in-Ok.ensures.performed in
+    record {
+      ended = tt;
+      given = command_cut _ (performed_at run.setup.now run.seed c.args.c c.args.held.now.state) _ _ _ _
+          (performed_at_prints run.setup.now run.seed c.args.c c.args.held.now.state ready.sound)
+          ready.blank performed.pages c.in-Err-write_pages.ensures.front_appended;
+      faults = c.in-Err-write_pages.ensures.cause;
+    }
 
 -- too many molecules are told by the step of the state as it was
-pub returns-in-Err-clause-ended : goal.returns-in-Err-clause-ended
-returns-in-Err-clause-ended g c =
-    let part = performed_at c.args.config.now c.args.streams.now c.args.c c.args.state.now in
-    subst (λ (one : RunFault). EndsPart part c.perform.new.state (Err one)) (sym c.fault_of_command.ensures)
-    (command_ends part c.perform.new.state c.args.state.now.step c.in-Err.fault
-    (λ is. c.in-Err.ensures.too_many (ap (λ fault. Err fault) is)))
-
-pub returns-in-Err-clause-given : goal.returns-in-Err-clause-given
-returns-in-Err-clause-given g c =
-    let part = performed_at c.args.config.now c.args.streams.now c.args.c c.args.state.now in
-    let prints = performed_at_prints c.args.config.now c.args.streams.now c.args.c c.args.state.now c.outlet_count-count.ensures.sound in
+pub returns-in-Err-clause-left : goal.returns-in-Err-clause-left
+returns-in-Err-clause-left g c =
+    let run = c.args.run.now in
+    let state = c.args.held.now.state in
+    let ready = c.requires.ready in
+    let part = performed_at run.setup.now run.seed c.args.c state in
+    let prints = performed_at_prints run.setup.now run.seed c.args.c state ready.sound in
+    let too_many = rw (c.config-config.ensures.value, ready.words) at c.in-Err.ensures.too_many in
+    let over : c.in-Err.fault ≡ command.TooManyMolecules → part.ending ≡ Over state.step = λ is. too_many (ap (λ fault. Err fault) is) in
     let told = g.K.Outlets.told c.args.outlets.now in
-    subst (λ (one : RunFault). Tells told told (GivesPart {T = Flow} part.pieces (Err one))) (sym c.fault_of_command.ensures)
-    (command_gives part c.args.state.now.step told c.in-Err.fault
-    (λ is. prints.over _ (c.in-Err.ensures.too_many (ap (λ fault. Err fault) is))))
-
-pub returns-in-Err-clause-faults : goal.returns-in-Err-clause-faults
-returns-in-Err-clause-faults g c =
     let count = g.K.Outlets.faults c.args.outlets.now in
-    subst (λ (one : RunFault). CountsFault {T = Flow} (Err one) count count) (sym c.fault_of_command.ensures)
-    (command_counts c.args.state.now.step count c.in-Err.fault)
+    subst (λ (one : RunFault). Leaves part (Err one) c.perform.new.state told told count count) (sym c.fault_of_command.ensures)
+    (command_fails part c.perform.new.state state.step told count c.in-Err.fault over (λ is. prints.over _ (over is)))

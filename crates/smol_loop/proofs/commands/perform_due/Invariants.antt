@@ -1,13 +1,19 @@
-use Rattle.std.proofs.Common.{◌≡◌, ◌+◌, [], length, replicate}
-use Rattle.smol_loop.proofs.Phases.{PhaseSoFar}
+use Rattle.std.proofs.Common.{◌≡◌, ◌+◌, ◌*◌, ◌≤◌, drop}
+use Rattle.smol_meaning.specs.Run.{commands_from}
+use Rattle.smol_loop.specs.Parts.{IsReady}
+use Rattle.smol_loop.proofs.Joining.{Left}
 use Rattle.smol_loop.proofs.commands.perform_due.Given as goal
 
--- the commands so far are performed
+-- the commands from this one on are left
 abbrev pub invariant-loop-c : goal.invariant-loop-c
-invariant-loop-c g l = record {
-  so_far : PhaseSoFar l.config l.initial.streams l.phase l.initial.state l.c l.state (g.K.Outlets.told l.initial.outlets) (g.K.Outlets.told l.outlets);
-  blank : l.pages ≡ replicate (2 + length l.config.outputs) [];
-  opened : g.K.Outlets.opened l.outlets ≡ g.K.Outlets.opened l.initial.outlets;
-  faults : g.K.Outlets.faults l.outlets ≡ g.K.Outlets.faults l.initial.outlets;
-  seed : l.streams ≡ l.initial.streams;
-}
+invariant-loop-c g l =
+    let draft = l.run.setup.now in
+    let seed = l.run.seed in
+    let first = l.initial.held.state in
+    record {
+      left : Left (commands_from draft seed l.phase l.c (drop l.c draft.commands) l.held.state) (commands_from draft seed l.phase 0 draft.commands first)
+          (g.K.Outlets.told l.initial.outlets) (g.K.Outlets.told l.outlets) (g.K.Outlets.faults l.initial.outlets) (g.K.Outlets.faults l.outlets);
+      ready : IsReady draft seed (g.K.Outlets.opened l.outlets) l.held;
+      next : l.held.state.next ≤ first.next + 1000000 * l.c;
+      step : l.held.state.step ≡ first.step;
+    }

@@ -4,8 +4,7 @@ use Rattle.smol_meaning.specs.Run.{run_of}
 use Rattle.smol_loop.specs.declared.run_fault.RunFault.{RunFault}
 use Rattle.smol_loop.specs.declared.run_fault.RunFault.TheVariants as fault
 use Rattle.smol_loop.specs.Simulation.{EndsAs, Prints}
-use Rattle.smol_loop.proofs.Lone.{front_nothing}
-use Rattle.smol_loop.proofs.ToldFaults.{placing_ends, placing_prints, placing_writes_nothing}
+use Rattle.smol_loop.proofs.ToldFaults.{cut_off_prints, placing_ends, placing_prints, placing_writes_nothing}
 use Rattle.smol_loop.proofs.Whole.{opening_step}
 use Rattle.smol_loop.proofs.simulation.simulate.Goals as goal
 
@@ -26,14 +25,14 @@ returns-in-Err-clause-cause g c is =
     let same : c.fault_of_placing.result ≡ fault.OutputFault = cc is in
     absurd (placing_writes_nothing c.in-Err.fault (sym c.fault_of_placing.ensures ∙ same))
 
-pub returns-in_default-clause-printed : goal.returns-in_default-clause-printed
-returns-in_default-clause-printed g c = front_nothing _ _
+pub returns-in_err-pages-clause-printed : goal.returns-in_err-pages-clause-printed
+returns-in_err-pages-clause-printed g c = cut_off_prints (run_of c.args.config.now c.args.seed) _ _ c.from_residual.ensures.1
 
-pub returns-in_default-of-clause-printed : goal.returns-in_default-of-clause-printed
-returns-in_default-of-clause-printed g c = front_nothing _ _
+pub returns-in_err-panels-clause-printed : goal.returns-in_err-panels-clause-printed
+returns-in_err-panels-clause-printed g c = cut_off_prints (run_of c.args.config.now c.args.seed) _ _ c.from_residual-in_err-panels.ensures.1
 
-pub returns-in_default-of-2-clause-printed : goal.returns-in_default-of-2-clause-printed
-returns-in_default-of-2-clause-printed g c = front_nothing _ _
+pub returns-in_err-setup-clause-printed : goal.returns-in_err-setup-clause-printed
+returns-in_err-setup-clause-printed g c = cut_off_prints (run_of c.args.config.now c.args.seed) _ _ c.from_residual-in_err-setup.ensures.1
 
 pub run_on-requires-clause-first : goal.run_on-requires-clause-first
 run_on-requires-clause-first g c lifetimes within = opening_step c.args.config.now _ c.in-Ok.state c.in-Ok.ensures.opened

@@ -17,17 +17,17 @@ overflow_add-k g c =
 
 pub returns-in-Ok-clause-step : goal.returns-in-Ok-clause-step
 returns-in-Ok-clause-step g c =
-    next_step c.args.setup.now c.args.seed c.args.state.now c.in-Ok.next (rw c.replace.ensures.value at c.in-Ok.ensures.answer)
+    next_step c.args.run.now.setup.now c.args.run.now.seed c.args.state.now c.in-Ok.next (rw c.replace-before.ensures.value at c.in-Ok.ensures.answer)
 
 -- too many molecules are told by the step that makes them
 pub returns-in-Err-clause-ended : goal.returns-in-Err-clause-ended
 returns-in-Err-clause-ended g c =
-    let config = c.args.setup.now in
-    let seed = c.args.seed in
+    let config = c.args.run.now.setup.now in
+    let seed = c.args.run.now.seed in
     let state = c.args.state.now in
-    subst (λ (one : RunFault). EndsPart (step_of config seed state) c.replace.new.dest (Err one)) (sym c.fault_of_step.ensures)
-    (step_ends config seed state c.replace.new.dest c.in-Err.fault
-    (subst (λ (before : State). IsAnswer (next_state config seed before) (Err c.in-Err.fault)) c.replace.ensures.value c.in-Err.ensures.answer))
+    subst (λ (one : RunFault). EndsPart (step_of config seed state) c.replace-before.new.dest (Err one)) (sym c.fault_of_step.ensures)
+    (step_ends config seed state c.replace-before.new.dest c.in-Err.fault
+    (subst (λ (before : State). IsAnswer (next_state config seed before) (Err c.in-Err.fault)) c.replace-before.ensures.value c.in-Err.ensures.answer))
 
 pub returns-in-Err-clause-no_output : goal.returns-in-Err-clause-no_output
 returns-in-Err-clause-no_output g c is =

@@ -1,13 +1,19 @@
-use Rattle.std.proofs.Common.{◌≡◌, ◌+◌, [], length, replicate}
-use Rattle.smol_loop.proofs.StepsMade.{StepsSoFar}
+use Rattle.std.proofs.Common.{◌≡◌, ◌+◌, ◌-◌, ◌*◌, ◌≤◌}
+use Rattle.smol_meaning.specs.Run.{steps_from, steps_of}
+use Rattle.smol_loop.specs.Parts.{IsReady}
+use Rattle.smol_loop.proofs.Joining.{Left}
 use Rattle.smol_loop.proofs.stepping.make_steps.Given as goal
 
--- the steps so far are made
+-- the steps behind those made are left
 abbrev pub invariant-loop-step : goal.invariant-loop-step
-invariant-loop-step g l = record {
-  so_far : StepsSoFar l.config l.seed l.initial.state l._step l.state (g.K.Outlets.told l.initial.outlets) (g.K.Outlets.told l.outlets);
-  blank : l.pages ≡ replicate (2 + length l.config.outputs) [];
-  opened : g.K.Outlets.opened l.outlets ≡ g.K.Outlets.opened l.initial.outlets;
-  faults : g.K.Outlets.faults l.outlets ≡ g.K.Outlets.faults l.initial.outlets;
-  seed : l.streams ≡ l.seed;
-}
+invariant-loop-step g l =
+    let draft = l.run.setup.now in
+    let seed = l.run.seed in
+    let first = l.initial.held.state in
+    record {
+      left : Left (steps_from draft seed (steps_of draft - l._step) l.held.state) (steps_from draft seed (steps_of draft) first)
+          (g.K.Outlets.told l.initial.outlets) (g.K.Outlets.told l.outlets) (g.K.Outlets.faults l.initial.outlets) (g.K.Outlets.faults l.outlets);
+      ready : IsReady draft seed (g.K.Outlets.opened l.outlets) l.held;
+      next : l.held.state.next ≤ first.next + 272000000 * l._step;
+      step : l.held.state.step ≡ l._step;
+    }
