@@ -28,7 +28,8 @@ fn nanos_in(word: &[u8]) -> Result<i64, Kind>
 
 // The time of a step in nanos, which takes some.
 fn step_in(word: &[u8]) -> Result<i64, Kind>
-    ensures { result ≡ step_in word.now }
+    ensures value { result ≡ step_in word.now }
+    ensures size { IfOk result (λ time. unsigned_abs time ≤ latest) }
 {
     let time = nanos_in(word)?;
     unless(time > 0, Kind::OutOfRange)?;
@@ -38,7 +39,8 @@ fn step_in(word: &[u8]) -> Result<i64, Kind>
 /// The time that a line gives, where `given` is what a line before gives by the same statement.
 #[tactic(auto, unfolding(crate::specs::Times::given_time_in))]
 pub fn judge(given: Option<i64>, line: &StatedLine<'_>) -> Result<i64, Kind>
-    ensures { result ≡ given_time_in given line.now }
+    ensures rule { result ≡ given_time_in given line.now }
+    ensures size { IfOk result (λ time. unsigned_abs time ≤ latest) }
 {
     once(&given)?;
     word_count(2, line)?;
@@ -48,7 +50,8 @@ pub fn judge(given: Option<i64>, line: &StatedLine<'_>) -> Result<i64, Kind>
 /// The time of a step that a line gives, where `given` is what a line before gives.
 #[tactic(auto, unfolding(crate::specs::Times::time_step_in))]
 pub fn judge_step(given: Option<i64>, line: &StatedLine<'_>) -> Result<i64, Kind>
-    ensures { result ≡ time_step_in given line.now }
+    ensures rule { result ≡ time_step_in given line.now }
+    ensures size { IfOk result (λ time. unsigned_abs time ≤ latest) }
 {
     once(&given)?;
     word_count(2, line)?;

@@ -41,7 +41,7 @@ unfolding statement_in
 returns-in-TimeStart c =
     let tables = c.args.self.now in
     rw c.in-TimeStart.is
-    (once_read statement.TimeStart c.args.line.now tables (λ time. record tables { times = record (tables.times) { start = time } }) (λ time. of_times (starts time)) (λ known. given_time_in known.times.start c.args.line.now) _ _ _ _ (λ before. refl) c.judge-in-TimeStart.ensures c.keep-in-TimeStart.ensures
+    (once_read statement.TimeStart c.args.line.now tables (λ time. record tables { times = record (tables.times) { start = time } }) (λ time. of_times (starts time)) (λ known. given_time_in known.times.start c.args.line.now) _ _ _ _ (λ before. refl) c.judge-in-TimeStart.ensures.rule c.keep-in-TimeStart.ensures
     (λ time before h. record { plain = ap (λ (old : Looked). let times : Times = record (old.times) { start = Some time } in let new : Looked = record old { times = times } in new) h.plain; groups = h.groups }))
 
 pub returns-in-TimeStop : goal.returns-in-TimeStop
@@ -49,7 +49,7 @@ unfolding statement_in
 returns-in-TimeStop c =
     let tables = c.args.self.now in
     rw c.in-TimeStop.is
-    (once_read statement.TimeStop c.args.line.now tables (λ time. record tables { times = record (tables.times) { stop = time } }) (λ time. of_times (stops time)) (λ known. given_time_in known.times.stop c.args.line.now) _ _ _ _ (λ before. refl) c.judge-in-TimeStop.ensures c.keep-in-TimeStop.ensures
+    (once_read statement.TimeStop c.args.line.now tables (λ time. record tables { times = record (tables.times) { stop = time } }) (λ time. of_times (stops time)) (λ known. given_time_in known.times.stop c.args.line.now) _ _ _ _ (λ before. refl) c.judge-in-TimeStop.ensures.rule c.keep-in-TimeStop.ensures
     (λ time before h. record { plain = ap (λ (old : Looked). let times : Times = record (old.times) { stop = Some time } in let new : Looked = record old { times = times } in new) h.plain; groups = h.groups }))
 
 pub returns-in-TimeStep : goal.returns-in-TimeStep
@@ -57,7 +57,7 @@ unfolding statement_in
 returns-in-TimeStep c =
     let tables = c.args.self.now in
     rw c.in-TimeStep.is
-    (once_read statement.TimeStep c.args.line.now tables (λ time. record tables { times = record (tables.times) { step = time } }) (λ time. of_times (steps time)) (λ known. time_step_in known.times.step c.args.line.now) _ _ _ _ (λ before. refl) c.judge_step.ensures c.keep-in-TimeStep.ensures
+    (once_read statement.TimeStep c.args.line.now tables (λ time. record tables { times = record (tables.times) { step = time } }) (λ time. of_times (steps time)) (λ known. time_step_in known.times.step c.args.line.now) _ _ _ _ (λ before. refl) c.judge_step.ensures.rule c.keep-in-TimeStep.ensures
     (λ time before h. record { plain = ap (λ (old : Looked). let times : Times = record (old.times) { step = Some time } in let new : Looked = record old { times = times } in new) h.plain; groups = h.groups }))
 
 pub returns-in-MaxMol : goal.returns-in-MaxMol
