@@ -1,23 +1,19 @@
 -- What a look at axis and plane says of a meeting.
-use Rattle.std.proofs.Common.{◌≡◌, ℕ, ◌↔◌, Bool, true, false, IsTrue, sym, ℤ}
-use Rattle.std.proofs.lemmas.Bool.{eq-eqb, false_from_ne_true}
+use Rattle.std.proofs.Common.{◌≡◌, ℕ, true, false, sym, ℤ}
+use Rattle.std.proofs.lemmas.Bool.{false_from_ne_true}
 use Rattle.smol_geom.specs.declared.moment.Moment.{Moment}
-use Rattle.smol_geom.specs.declared.rect.Rect.{Rect}
 use Rattle.smol_geom.specs.Axes.{on_axis}
-use Rattle.smol_geom.specs.Fold.{IsSign, true_point}
-use Rattle.smol_geom.specs.Moment.{part_of}
+use Rattle.smol_geom.specs.Fold.{IsSign}
 use Rattle.smol_geom.specs.Moments.{IsMoment}
-use Rattle.smol_geom.specs.Rect.{HoldsPoint}
 use Rattle.smol_geom.proofs.EachAxis.{at_axis}
 use Rattle.smol_meaning.specs.declared.sheet.Sheet.{Sheet}
-use Rattle.smol_meaning.specs.declared.sheet.Sheet.TheVariants.{Rectangle, Plane}
+use Rattle.smol_meaning.specs.declared.sheet.Sheet.TheVariants.{Plane}
 use Rattle.smol_meaning.specs.Folds.{IsSheet}
 use Rattle.smol_meaning.specs.Plates.{sheet_axis, sheet_plane}
 use Rattle.smol_meaning.proofs.Bounds.{flat_sheet}
 use Rattle.smol_meaning.proofs.Planes.{met_plane, plane_met}
 use Rattle.smol_travel.specs.declared.leg.Leg.{Leg}
 use Rattle.smol_travel.specs.Legs.{IsLeg, meets, plane_on}
-use Rattle.smol_travel.proofs.Scan.{holds_agrees}
 
 module _ (leg : Leg) (is_leg : IsLeg leg) (m : Moment) (is : IsMoment leg.from leg.by m) where
   sign : IsSign (on_axis leg.fold.sign m.axis)
@@ -31,10 +27,6 @@ module _ (leg : Leg) (is_leg : IsLeg leg) (m : Moment) (is : IsMoment leg.from l
   pub apart : (sheet : Sheet) → IsSheet sheet → (sheet_axis sheet ≡ m.axis → sheet_plane sheet ≡ plane_on leg m → ⊥) → false ≡ meets leg m sheet
   apart sheet fits elsewhere =
       sym (false_from_ne_true (meets leg m sheet) (λ e. let at = met_at sheet fits e in elsewhere (sym at.0) (sym at.1)))
-
-  -- across the axis of the moment, a rectangle is met where it holds the true point
-  pub rect_agrees : (rect : Rect) (t : Bool) → m.axis ≡ rect.axis → (IsTrue t ↔ HoldsPoint rect (true_point leg.fold leg.from leg.by (part_of m))) → t ≡ meets leg m (Rectangle rect)
-  rect_agrees rect t axis says = rw (eq-eqb rect.axis m.axis (sym axis)) (holds_agrees rect (true_point leg.fold leg.from leg.by (part_of m)) t says)
 
   -- and a wall is met where it is at the plane of the moment
   pub wall_agrees : (axis : ℕ) (plane : ℤ) → m.axis ≡ axis → plane_on leg m ≡ plane → true ≡ meets leg m (Plane axis plane)

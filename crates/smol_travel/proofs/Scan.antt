@@ -1,48 +1,14 @@
 -- The scan of the panels and walls for the next meeting.
-use Rattle.std.proofs.Common.{◌≡◌, ℕ, ◌+◌, ◌<◌, ◌↔◌, Bool, true, false, IsTrue, inl, inr, List, length, get_or, take, Option, Some, None, refl, sym, ◌∙◌, ap, subst, arith, pos}
+use Rattle.std.proofs.Common.{◌≡◌, ℕ, ◌+◌, ◌<◌, true, false, List, length, get_or, take, Option, Some, None, sym, ◌∙◌, ap, subst, arith}
 use Rattle.std.proofs.lemmas.Bool.{cond_both, both_ways, false_from_ne_true}
-use Rattle.std.proofs.lemmas.Int.{ints}
 use Rattle.std.proofs.lemmas.List.Elements.{All-more}
 use Rattle.smol_geom.specs.declared.moment.Moment.{Moment}
-use Rattle.smol_geom.specs.declared.rect.Rect.{Rect}
-use Rattle.smol_geom.specs.Fraction.{Fraction}
-use Rattle.smol_geom.specs.Moment.{IsBefore}
 use Rattle.smol_geom.specs.Moments.{is_before}
-use Rattle.smol_geom.specs.Rect.{HoldsPoint}
-use Rattle.smol_geom.proofs.Order.{Before, before_is, is_before_from, before_trans, not_before_itself}
+use Rattle.smol_geom.proofs.Order.{before_trans, not_before_itself}
 use Rattle.smol_meaning.specs.declared.sheet.Sheet.{Sheet}
-use Rattle.smol_meaning.specs.Plates.{is_in_rect}
-use Rattle.smol_meaning.proofs.Responses.{holds_from, holds_is}
 use Rattle.smol_travel.specs.Legs.{meets}
 use Rattle.smol_travel.specs.Meetings.{NoneMet, ComesLater, NothingBefore, IsNext, sooner_of}
 use Rattle.smol_travel.specs.declared.leg.Leg.{Leg}
-
--- what the code's comparison says
-pub before_agrees : (a b : Moment) (t : Bool) → (IsTrue t ↔ IsBefore a b) → t ≡ is_before a b
-before_agrees a b t says = go t says (is_before a b) refl
-  where
-    into : IsBefore a b → Before a b
-    into (inl l) = inl (omega (arith, ints, l))
-    into (inr r) = inr (omega (arith, ints, r.0), r.1)
-
-    back : Before a b → IsBefore a b
-    back (inl l) = inl (omega (arith, ints, l))
-    back (inr r) = inr (ap pos r.0, r.1)
-
-    go : (t : Bool) → (IsTrue t ↔ IsBefore a b) → (u : Bool) → is_before a b ≡ u → t ≡ u
-    go true says true e = refl
-    go true says false e = absurd (both_ways _ e (is_before_from a b (into (says.0 refl))))
-    go false says true e = says.1 (back (before_is a b e))
-    go false says false e = refl
-
-pub holds_agrees : (rect : Rect) (point : ℕ → Fraction) (t : Bool) → (IsTrue t ↔ HoldsPoint rect point) → t ≡ is_in_rect rect point
-holds_agrees rect point t says = go t says (is_in_rect rect point) refl
-  where
-    go : (t : Bool) → (IsTrue t ↔ HoldsPoint rect point) → (u : Bool) → is_in_rect rect point ≡ u → t ≡ u
-    go true says true e = refl
-    go true says false e = absurd (both_ways _ e (holds_from rect point (says.0 refl)))
-    go false says true e = says.1 (holds_is rect point e)
-    go false says false e = refl
 
 -- a sheet more
 module _ (sheets : List Sheet) (leg : Leg) (last : Moment) (i : ℕ) (d sheet : Sheet) (l : i < length sheets) (at : get_or sheets i d ≡ sheet) where

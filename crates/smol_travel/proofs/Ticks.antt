@@ -1,23 +1,11 @@
 -- How many ticks of a way lead to a coordinate, and how a fold is undone.
-use Rattle.std.proofs.Common.{◌≡◌, ℕ, zero, suc, ◌<◌, ◌≤◌, ◌^◌, ◌%◌, Bool, true, false, ◌⊎◌, inl, inr, refl, sym, ◌∙◌, ap, subst, arith, ℤ, pos, negsuc, neg_ℤ, ◌+ℤ◌, ◌-ℤ◌, ◌*ℤ◌, int_lt, unsigned_abs, FitsSigned, Option, Some, None}
+use Rattle.std.proofs.Common.{◌≡◌, ℕ, zero, suc, ◌<◌, ◌%◌, Bool, true, false, ◌⊎◌, inl, inr, refl, sym, ◌∙◌, ap, subst, arith, ℤ, pos, negsuc, neg_ℤ, ◌+ℤ◌, ◌-ℤ◌, ◌*ℤ◌, int_lt, unsigned_abs, FitsSigned, Option, Some, None}
 use Rattle.std.proofs.lemmas.Bool.{cases_Bool, lt-ltb, le-ltb, both_ways}
 use Rattle.std.proofs.lemmas.Int.{ints, fits_signed_from_abs}
 use Rattle.std.specs.Int.{w8}
-use Rattle.smol_geom.specs.declared.moment.Moment.{Moment}
-use Rattle.smol_geom.specs.declared.place.Place.{Place}
-use Rattle.smol_geom.specs.declared.place.Step3.{Step3}
-use Rattle.smol_geom.specs.Axes.{on_axis, IsWithin}
 use Rattle.smol_geom.specs.Fold.{IsSign}
-use Rattle.smol_geom.specs.Moment.{IsPart}
-use Rattle.smol_geom.specs.Moments.{coordinate_from, IsMoment}
-use Rattle.smol_geom.proofs.EachAxis.{at_axis}
+use Rattle.smol_geom.specs.Moments.{coordinate_from}
 use Rattle.smol_travel.specs.Meetings.{IsSameWay}
-
--- a moment of a move is a part of it
-pub part_from : (from : Place) (by : Step3) (m : Moment) → IsWithin (2 ^ 34) by.0 → IsMoment from by m → IsPart m
-part_from from by m small is =
-    let size = at_axis (λ j. unsigned_abs (on_axis by.0 j) ≤ 2 ^ 34) m.axis is.axis small in
-    record { begun = is.begun; unfinished = is.unfinished; den = omega (arith, is.den, size) }
 
 above_nothing : (z : ℤ) → int_lt (pos 0) z ≡ true → z ≡ pos (unsigned_abs z)
 above_nothing (pos n) e = refl
