@@ -61,9 +61,9 @@ module _ (search : Search) where
       record { on_z = is.z; on_y = here; from = is.x.0; to = is.x.1 } in
       (holds places search.order q).1 (within, subst (λ (place : Place). IsInRow search.cells.now.grid (first_on boxes 0) (last_on boxes 0) row layer place) (sym same) there)
 
-  -- a place is within any reach of itself
-  pub near_itself : (place : Place) (reach : ℕ) → EachAxis (λ axis. unsigned_abs (on_axis place.0 axis -ℤ on_axis place.0 axis) ≤ reach)
-  near_itself place reach = (none (on_axis place.0 0), none (on_axis place.0 1), none (on_axis place.0 2))
-    where
-      none : (x : _) → unsigned_abs (x -ℤ x) ≤ reach
-      none x = omega (arith, ints)
+-- a place is within any reach of itself
+pub near_itself : (place : Place) (reach : ℕ) → EachAxis (λ axis. unsigned_abs (on_axis place.0 axis -ℤ on_axis place.0 axis) ≤ reach)
+near_itself place reach = (none (on_axis place.0 0), none (on_axis place.0 1), none (on_axis place.0 2))
+  where
+    none : (x : _) → unsigned_abs (x -ℤ x) ≤ reach
+    none x = omega (arith, ints)

@@ -44,7 +44,7 @@ pub fn encounters<R: Threads + Sync>(
     let Some(reach) = reaches.longest() else {
         return Ok(Vec::new(alloc));
     };
-    let seekers = seekers_of(alloc, reaches, mols, free, seed, k)?;
+    let seekers = seekers_of(alloc, reaches, mols, free)?;
     let keys = keys_among(alloc, panels, mols, &seekers, reach, seed, k)?;
     let found = keys.into_order(alloc)?;
     Ok(found)

@@ -1,7 +1,7 @@
 //! The molecules that may react with others.
-ghost use Rattle.std.specs.Prelude.{◌≡◌, ◌<◌, length, All, IfOk, map};
+ghost use Rattle.std.specs.Prelude.{◌≡◌, ℕ, ◌<◌, length, All, IfOk, map};
+ghost use Rattle.smol_types.specs.declared.state.Mol.{Mol};
 ghost use Rattle.smol_meaning.specs.Events.{is_free};
-ghost use Rattle.smol_pairs.specs.Moved.{AreMoved};
 ghost use Rattle.smol_pairs.specs.Seekers.{AreCovered, IsSeeker, place_of, seeker_at};
 
 use crate::reaches::Reaches;
@@ -16,19 +16,19 @@ pub struct Seeker {
     pub rank: usize,
 }
 
-/// The molecules that made no reaction alone and that reach others at all.
+/// The molecules that made no reaction alone, as `free` says, and that reach others at all.
 pub fn seekers_of(
     alloc: Global,
     reaches: &Reaches,
     mols: &[Mol],
     free: &[bool],
-    _seed: u64,
-    _k: u32,
 ) -> Result<Vec<Seeker>, AllocError>
-    requires moved { AreMoved reaches.now mols.now }
-    requires free { free.now ≡ map (is_free reaches.now _seed _k) mols.now }
-    ensures seekers { IfOk result (λ seekers. All (IsSeeker reaches.now _seed _k mols.now) seekers.items) }
-    ensures covered { IfOk result (λ seekers. AreCovered reaches.now _seed _k mols.now (length mols.now) seekers.items) }
+    requires species { All (λ (mol : Mol). mol.species < length reaches.now.species) mols.now }
+    requires free { length free.now ≡ length mols.now }
+    ensures seekers { IfOk result (λ seekers. (seed k : ℕ) → free.now ≡ map (is_free reaches.now seed k) mols.now
+        → All (IsSeeker reaches.now seed k mols.now) seekers.items) }
+    ensures covered { IfOk result (λ seekers. (seed k : ℕ) → free.now ≡ map (is_free reaches.now seed k) mols.now
+        → AreCovered reaches.now seed k mols.now (length mols.now) seekers.items) }
 {
     let mut seekers = Vec::new(alloc);
     for (rank, mol) in mols.iter().enumerate() {

@@ -1,18 +1,31 @@
-use Rattle.std.proofs.Common.{ℕ, ◌<◌, List, length, map, All, sym, ap, subst, ◌∙◌, arith}
+use Rattle.std.proofs.Common.{◌≡◌, ℕ, ◌<◌, List, length, map, All, sym, ap, subst, ◌∙◌, arith}
 use Rattle.std.specs.Prelude.{Contains}
 use Rattle.std.proofs.lemmas.List.Elements.{All-weaker, All-contains}
 use Rattle.smol_types.specs.declared.draft.Draft.{Draft}
+use Rattle.smol_types.specs.declared.state.Mol.{Mol}
 use Rattle.smol_types.specs.Sound.{IsSound}
 use Rattle.smol_meaning.specs.Encounters.{Encounter, encounters_of}
+use Rattle.smol_meaning.specs.Events.{is_free}
 use Rattle.smol_pairs.specs.declared.seeker.Seeker.{Seeker}
 use Rattle.smol_pairs.specs.Encounters.{AreRanksIn, ranks_of}
 use Rattle.smol_pairs.specs.Met.{Has, two_at}
 use Rattle.smol_pairs.specs.Reach.{longest_of, reaches_of}
-use Rattle.smol_pairs.specs.Seekers.{AreCovered, nobody, rank_of}
+use Rattle.smol_pairs.specs.Seekers.{AreCovered, IsSeeker, nobody, rank_of}
 use Rattle.smol_pairs.proofs.AllMet.{all_have}
 use Rattle.smol_pairs.proofs.KeysFound.{all_found}
 use Rattle.smol_pairs.proofs.Meetings.{all_ranks, no_encounters}
 use Rattle.smol_pairs.proofs.finding.encounters.Goals as goal
+
+pub seekers_of-requires-clause-species : goal.seekers_of-requires-clause-species
+seekers_of-requires-clause-species g c =
+    subst (λ (draft : Draft). All (λ (mol : Mol). mol.species < length draft.species) c.args.mols.now) (sym c.requires.reaches) c.requires.moved.species
+
+pub keys_among-requires-clause-seekers : goal.keys_among-requires-clause-seekers
+keys_among-requires-clause-seekers g c =
+    let mols = c.args.mols.now in
+    subst (All (IsSeeker c.args.panels.now c.args.seed c.args.k mols)) (sym c.deref.ensures.value)
+    (subst (λ (draft : Draft). c.args.free.now ≡ map (is_free draft c.args.seed c.args.k) mols → All (IsSeeker draft c.args.seed c.args.k mols) c.in_ok-seekers.seekers.items)
+    c.requires.reaches (c.in_ok-seekers.ensures.seekers c.args.seed c.args.k) c.requires.free)
 
 pub returns-in_default-clause-encounters : goal.returns-in_default-clause-encounters
 returns-in_default-clause-encounters g c =
@@ -32,7 +45,8 @@ returns-clause-encounters g c =
     let all = map ranks_of (encounters_of draft seed k mols) in
     let same = c.in_ok-found.ensures.same in
     let sound : IsSound draft = subst IsSound c.requires.reaches c.longest.ensures.sound in
-    let covered = subst (λ (draft : Draft). AreCovered draft seed k mols (length mols) seekers) c.requires.reaches c.in_ok-seekers.ensures.covered in
+    let covered = subst (λ (draft : Draft). c.args.free.now ≡ map (is_free draft seed k) mols → AreCovered draft seed k mols (length mols) seekers)
+    c.requires.reaches (c.in_ok-seekers.ensures.covered seed k) c.requires.free in
     let has = subst (λ (xs : List Seeker). (i j : ℕ) → i < j → Contains (map rank_of xs) i → Contains (map rank_of xs) j → Has draft seed k mols keys i j)
     c.deref.ensures.value c.in_ok-keys.ensures.has in
     all_found draft seed k nobody mols found (omega (arith, c.requires.moved.count)) (omega (arith, sound.reaction_count)) c.in_ok-found.ensures.rising

@@ -23,7 +23,7 @@ returns-clause-inside c =
     c.boxes.ensures.value ∙ ap (λ (grid : Grid). boxes_between grid around.low around.high) c.grid.ensures in
     subst (AreBoxesIn search.cells.now.grid) (sym is)
     (are_boxes search.cells.now.grid around here
-    (c.around-around.ensures.has here (small_place search c.args.place c.requires) (near_itself search here search.reach)))
+    (c.around-around.ensures.has here (small_place search c.args.place c.requires) (near_itself here _)))
 
 pub returns-clause-has : goal.returns-clause-has
 returns-clause-has c = λ q inside near.
