@@ -1,5 +1,5 @@
 -- How a part of a run is made: what it needs, how it ends, what outlets are given in it, and what becomes of their count of faults.
-use Rattle.std.specs.Prelude.{◌≡◌, ℕ, ◌+◌, List, [], ◌∷◌, length, replicate, Option, Result, Ok, Err}
+use Rattle.std.specs.Prelude.{◌≡◌, ℕ, ◌+◌, List, [], ◌∷◌, length, replicate, Option, Result, Ok, Err, OnOk}
 use Rattle.smol_edge.specs.Faults.{Rose, Tells}
 use Rattle.smol_edge.specs.Outlets.{Piece, Written, Appends, AppendsFrontOf}
 use Rattle.smol_types.specs.declared.command.Phase.TheVariants as phase
@@ -52,6 +52,12 @@ pub record Leaves (part : Stretch) (result : Result Flow RunFault) (last : State
   pub ended : EndsPart part last result
   pub given : Tells told tells (GivesPart part.pieces result)
   pub faults : CountsFault result before after
+
+-- behind a part the words are those of the seed and the files are opened, and where it didn't fail all is there for the next part
+pub record StaysReady {T : Type 0} (draft : Draft) (seed opened : ℕ) (result : Result T RunFault) (held : Held) : Type 0 where
+  pub words : held.streams ≡ seed
+  pub files : opened ≡ length draft.outputs
+  pub next : OnOk result (IsReady draft seed opened held)
 
 -- the commands that are due at a state, and the step after it
 abbrev pub one_step : Draft → ℕ → State → Stretch

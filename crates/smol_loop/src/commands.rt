@@ -6,7 +6,7 @@ ghost use Rattle.smol_meaning.specs.Run.{phase_of};
 ghost use Rattle.smol_commands.specs.Performs.{performed_at};
 ghost use Rattle.smol_commands.specs.Phase.{IsPhase};
 ghost use Rattle.smol_loop.specs.Due.{due_at};
-ghost use Rattle.smol_loop.specs.Parts.{IsReady, Leaves};
+ghost use Rattle.smol_loop.specs.Parts.{IsReady, Leaves, StaysReady};
 
 use crate::faults::fault_of_command;
 use crate::held::Held;
@@ -38,11 +38,9 @@ fn perform_command<K: Outlets>(
 
     ensures left { Leaves (performed_at run.now.setup.now run.now.seed c held.old.state) result held.new.state
         (K.told outlets.old) (K.told outlets.new) (K.faults outlets.old) (K.faults outlets.new) }
-    ensures ready { OnOk result (IsReady run.now.setup.now run.now.seed (K.opened outlets.new) held.new) }
+    ensures ready { StaysReady run.now.setup.now run.now.seed (K.opened outlets.new) result held.new }
     ensures serials { OnOk result (held.new.state.next ≤ held.old.state.next + 1000000) }
     ensures step { OnOk result (held.new.state.step ≡ held.old.state.step) }
-    ensures opened { K.opened outlets.new ≡ length run.now.setup.now.outputs }
-    ensures seed { held.new.streams ≡ run.now.seed }
 {
     let config = run.setup.config();
     let count = outlet_count(config);
@@ -78,11 +76,9 @@ fn perform_if_due<K: Outlets>(
 
     ensures left { Leaves (due_at run.now.setup.now run.now.seed phase c held.old.state) result held.new.state
         (K.told outlets.old) (K.told outlets.new) (K.faults outlets.old) (K.faults outlets.new) }
-    ensures ready { OnOk result (IsReady run.now.setup.now run.now.seed (K.opened outlets.new) held.new) }
+    ensures ready { StaysReady run.now.setup.now run.now.seed (K.opened outlets.new) result held.new }
     ensures serials { OnOk result (held.new.state.next ≤ held.old.state.next + 1000000) }
     ensures step { OnOk result (held.new.state.step ≡ held.old.state.step) }
-    ensures opened { K.opened outlets.new ≡ length run.now.setup.now.outputs }
-    ensures seed { held.new.streams ≡ run.now.seed }
 {
     let config = run.setup.config();
     let command = &config.commands()[c as usize];
@@ -106,11 +102,9 @@ pub fn perform_due<K: Outlets>(
 
     ensures left { Leaves (phase_of run.now.setup.now run.now.seed phase held.old.state) result held.new.state
         (K.told outlets.old) (K.told outlets.new) (K.faults outlets.old) (K.faults outlets.new) }
-    ensures ready { OnOk result (IsReady run.now.setup.now run.now.seed (K.opened outlets.new) held.new) }
+    ensures ready { StaysReady run.now.setup.now run.now.seed (K.opened outlets.new) result held.new }
     ensures serials { OnOk result (held.new.state.next ≤ held.old.state.next + 256000000) }
     ensures step { OnOk result (held.new.state.step ≡ held.old.state.step) }
-    ensures opened { K.opened outlets.new ≡ length run.now.setup.now.outputs }
-    ensures seed { held.new.streams ≡ run.now.seed }
 {
     let commands = run.setup.config().commands();
     for c in 0..commands.len() as u16 {

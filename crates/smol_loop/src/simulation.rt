@@ -1,7 +1,7 @@
 ghost use Rattle.std.specs.Prelude.{◌≡◌, ◌≢◌, ◌≤◌, IsErrOf, OnOk, length};
 ghost use Rattle.smol_edge.specs.Faults.{Rose, Tells};
 ghost use Rattle.smol_meaning.specs.Run.{course, run_of};
-ghost use Rattle.smol_loop.specs.Parts.{IsReady, Leaves, up_to_end};
+ghost use Rattle.smol_loop.specs.Parts.{IsReady, Leaves, StaysReady, up_to_end};
 ghost use Rattle.smol_loop.specs.Simulation.{EndsAs, Prints};
 
 use crate::commands::{outlet_count, perform_due};
@@ -33,10 +33,8 @@ fn begin_and_step<R: Threads + Sync, K: Outlets, G: Gate + Sync>(
 
     ensures left { Leaves (up_to_end run.now.setup.now run.now.seed held.old.state) result held.new.state
         (K.told outlets.old) (K.told outlets.new) (K.faults outlets.old) (K.faults outlets.new) }
-    ensures ready { OnOk result (IsReady run.now.setup.now run.now.seed (K.opened outlets.new) held.new) }
+    ensures ready { StaysReady run.now.setup.now run.now.seed (K.opened outlets.new) result held.new }
     ensures serials { OnOk result (held.new.state.next ≤ 1088000513000001) }
-    ensures opened { K.opened outlets.new ≡ length run.now.setup.now.outputs }
-    ensures seed { held.new.streams ≡ run.now.seed }
 {
     match perform_due(run, Phase::Before, held, outlets) {
         Ok(Flow::Go) => make_steps(team, run, held, outlets),
@@ -58,7 +56,7 @@ fn run_on<R: Threads + Sync, K: Outlets, G: Gate + Sync>(
 
     ensures left { Leaves (course run.now.setup.now run.now.seed held.old.state) result held.new.state
         (K.told outlets.old) (K.told outlets.new) (K.faults outlets.old) (K.faults outlets.new) }
-    ensures opened { K.opened outlets.new ≡ length run.now.setup.now.outputs }
+    ensures ready { StaysReady run.now.setup.now run.now.seed (K.opened outlets.new) result held.new }
 {
     match begin_and_step(team, run, held, outlets) {
         Ok(_) => perform_due(run, Phase::After, held, outlets),
@@ -99,12 +97,11 @@ pub fn simulate<R: Threads + Sync, K: Outlets, G: Gate + Sync>(
         setup: &setup,
         seed,
     };
-    let team = Team { rt, workers, gate };
     let mut held = Held {
         state,
         streams,
         pages,
     };
-    run_on(&team, &run, &mut held, outlets)?;
+    run_on(&Team { rt, workers, gate }, &run, &mut held, outlets)?;
     Ok(())
 }

@@ -5,7 +5,7 @@ ghost use Rattle.smol_types.specs.Sound.{IsSound};
 ghost use Rattle.smol_types.specs.State.{Fits};
 ghost use Rattle.smol_types.specs.Steps.{last_step};
 ghost use Rattle.smol_meaning.specs.Run.{step_of, steps_from, steps_of};
-ghost use Rattle.smol_loop.specs.Parts.{EndsPart, IsReady, Leaves, one_step};
+ghost use Rattle.smol_loop.specs.Parts.{EndsPart, IsReady, Leaves, StaysReady, one_step};
 
 use crate::commands::perform_due;
 use crate::faults::fault_of_step;
@@ -45,10 +45,9 @@ fn make_step<R: Threads + Sync, G: Gate + Sync>(
     ensures step { OnOk result (state.new.step ≡ state.old.step + 1) }
     ensures no_output { IsErrOf result RunFault.OutputFault → ⊥ }
 {
-    let step = state.step;
-    let k = step + 1;
+    let k = state.step + 1;
     let nobody = State {
-        step,
+        step: k,
         mols: Items::new(run.alloc),
         next: 0,
     };
@@ -83,11 +82,9 @@ fn perform_and_step<R: Threads + Sync, K: Outlets, G: Gate + Sync>(
 
     ensures left { Leaves (one_step run.now.setup.now run.now.seed held.old.state) result held.new.state
         (K.told outlets.old) (K.told outlets.new) (K.faults outlets.old) (K.faults outlets.new) }
-    ensures ready { OnOk result (IsReady run.now.setup.now run.now.seed (K.opened outlets.new) held.new) }
+    ensures ready { StaysReady run.now.setup.now run.now.seed (K.opened outlets.new) result held.new }
     ensures serials { OnOk result (held.new.state.next ≤ held.old.state.next + 272000000) }
     ensures step { result ≡ Ok Flow.Go → held.new.state.step ≡ held.old.state.step + 1 }
-    ensures opened { K.opened outlets.new ≡ length run.now.setup.now.outputs }
-    ensures seed { held.new.streams ≡ run.now.seed }
 {
     match perform_due(run, Phase::At(held.state.step), held, outlets) {
         Ok(Flow::Go) => make_step(team, run, &mut held.state),
@@ -109,10 +106,8 @@ pub fn make_steps<R: Threads + Sync, K: Outlets, G: Gate + Sync>(
 
     ensures left { Leaves (steps_from run.now.setup.now run.now.seed (steps_of run.now.setup.now) held.old.state) result held.new.state
         (K.told outlets.old) (K.told outlets.new) (K.faults outlets.old) (K.faults outlets.new) }
-    ensures ready { OnOk result (IsReady run.now.setup.now run.now.seed (K.opened outlets.new) held.new) }
+    ensures ready { StaysReady run.now.setup.now run.now.seed (K.opened outlets.new) result held.new }
     ensures serials { OnOk result (held.new.state.next ≤ held.old.state.next + 1088000256000000) }
-    ensures opened { K.opened outlets.new ≡ length run.now.setup.now.outputs }
-    ensures seed { held.new.streams ≡ run.now.seed }
 {
     let last = steps_of(run.setup.config());
     for _step in 0..last {

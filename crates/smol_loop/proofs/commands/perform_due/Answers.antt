@@ -14,7 +14,7 @@ loop-c-preserved g c =
     let rest = phase_rest draft run.seed c.args.phase c.loop-c.c c.loop-c.held.state _ _ _ _ _ within c.loop-c.invariant.left in
     record {
       left = goes_on (after_command draft run.seed c.args.phase c.loop-c.c) rest (rw c.in-Ok-Go.field-0-is at c.in-Ok-Go.ensures.left);
-      ready = c.in-Ok-Go.ensures.ready;
+      ready = c.in-Ok-Go.ensures.ready.next;
       next = omega (arith, c.loop-c.invariant.next, c.in-Ok-Go.ensures.serials);
       step = c.in-Ok-Go.ensures.step ∙ c.loop-c.invariant.step;
     }

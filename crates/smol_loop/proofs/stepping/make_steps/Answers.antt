@@ -22,7 +22,7 @@ loop-step-preserved g c =
     let rest = steps_rest draft run.seed made c.loop-step.held.state _ _ _ _ _ within c.loop-step.invariant.left in
     record {
       left = goes_on (steps_from draft run.seed (steps_of draft - (made + 1))) rest (rw c.in-Ok-Go.field-0-is at c.in-Ok-Go.ensures.left);
-      ready = c.in-Ok-Go.ensures.ready;
+      ready = c.in-Ok-Go.ensures.ready.next;
       next = omega (arith, c.loop-step.invariant.next, c.in-Ok-Go.ensures.serials);
       step = c.in-Ok-Go.ensures.step (ap (λ flow. Ok flow) c.in-Ok-Go.field-0-is) ∙ ap (λ n. n + 1) c.loop-step.invariant.step;
     }
