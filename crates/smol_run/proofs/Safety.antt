@@ -9,7 +9,8 @@ use Rattle.smol_meaning.proofs.Crossings.{crosses_none}
 use Rattle.smol_confined.proofs.Filling.{events_of_run_are_confined}
 use Rattle.smol_confined.proofs.Linked.{run_is_confined}
 use Rattle.smol_run.specs.declared.words.Job.{Job}
-use Rattle.smol_run.specs.declared.words.Job.TheVariants.{File}
+use Rattle.smol_run.specs.declared.words.Job.TheVariants.{File, Make}
+use Rattle.smol_run.specs.Generated.{generated}
 use Rattle.smol_run.specs.Outcome.{seed_of}
 use Rattle.smol_run.specs.Ways.{FileGoesSafely, JobGoesSafely, TextGoesSafely}
 
@@ -31,6 +32,7 @@ file_safe seed (Some text) = text_safe seed text
 job_safe : (job : Option Job) (words : List (List ℕ)) (contents : List ℕ → Option (List ℕ)) → JobGoesSafely job words contents
 job_safe None words contents = tt
 job_safe (Some (File index seed workers)) words contents = file_safe seed (contents (slice_index_or words index []))
+job_safe (Some (Make n)) words contents = text_safe None (generated n)
 
 -- whatever the words and the files are
 pub all_safe : (job : Option Job) (words : List (List ℕ)) (a : Option Reading) → IfSome a (λ reading. JobGoesSafely job words reading.contents)

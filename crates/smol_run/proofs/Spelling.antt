@@ -8,8 +8,9 @@ use Rattle.std.proofs.lemmas.Option.{option_and_then_some}
 use Rattle.std.proofs.lemmas.Slice.Eq.{bytes_eq-Decides}
 use Rattle.smol_run.specs.declared.words.Item.{Item}
 use Rattle.smol_run.specs.declared.words.Item.TheVariants.{Name, Seed, Workers}
-use Rattle.smol_run.specs.declared.words.Job.TheVariants.{File}
-use Rattle.smol_run.specs.Words.{is_file_name, item_of_two, items_of, job_by, job_of, joined_items, names_in, only_entry, optional_entry, file_job, seed_in, seeds_in, worker_counts_in, workers_in}
+use Rattle.smol_run.specs.declared.words.Job.{Job}
+use Rattle.smol_run.specs.declared.words.Job.TheVariants.{File, Make}
+use Rattle.smol_run.specs.Words.{is_file_name, item_of_two, items_of, job_by, job_of, joined_items, names_in, only_entry, optional_entry, file_job, items_job, made_of, made_or, molecules_in, seed_in, seeds_in, worker_counts_in, workers_in}
 use Rattle.smol_run.proofs.Items.{items_of-name, items_of-two}
 
 -- the words spell the items in order, where the first word has this index: a name by itself, and a seed
@@ -132,9 +133,9 @@ file_job-only index None (Some given) = refl
 file_job-only index (Some seed) None = refl
 file_job-only index (Some seed) (Some given) = refl
 
--- words ask for a run exactly where they spell one name, at most one seed and at most one number of workers
-pub job_of-AskForRun : (words : List (List ℕ)) (index : ℕ) (seed : Option ℕ) (workers : ℕ) → (job_of words ≡ Some (File index seed workers)) ↔ AskForRun words index seed workers
-job_of-AskForRun words index seed workers = (
+-- items ask for a run exactly where words spell one name, at most one seed and at most one number of workers
+items_job-AskForRun : (words : List (List ℕ)) (index : ℕ) (seed : Option ℕ) (workers : ℕ) → (items_job words ≡ Some (File index seed workers)) ↔ AskForRun words index seed workers
+items_job-AskForRun words index seed workers = (
   (λ asks. option_and_then_some (λ items. file_job (names_in items) (seeds_in items) (worker_counts_in items)) (items_of 0 words) (File index seed workers) asks
       (λ items have is.
       let parts = job_has (only_entry (names_in items)) (optional_entry (seeds_in items)) (optional_entry (worker_counts_in items)) index seed workers is in
@@ -149,3 +150,37 @@ job_of-AskForRun words index seed workers = (
       })),
   (λ asks. rw (items_of-Spell 0 asks.items words asks.spell, asks.one_name, asks.seed_is, asks.given_is, asks.workers_are) (file_job-only index seed asks.given)),
 )
+
+-- the words are `--make` and a number of molecules
+abbrev pub AskForMade : List (List ℕ) → ℕ → Type 0
+AskForMade words n = (number : List ℕ) × (words ≡ codes "--make" ∷ number ∷ []) × (molecules_in number ≡ Some n)
+
+-- two words are `--make` and a number, where they have the number
+made_of_by : (word number : List ℕ) (n : ℕ) (says : Bool) → bytes_eq word (codes "--make") ≡ says
+    → (if says then molecules_in number else None) ≡ Some n → AskForMade (word ∷ number ∷ []) n
+made_of_by word number n true same is = (number, ap (λ first. first ∷ number ∷ []) ((bytes_eq-Decides word (codes "--make")).0 same), is)
+made_of_by word number n false same is = absurd (cc)
+
+made_of-AskForMade : (words : List (List ℕ)) (n : ℕ) → made_of words ≡ Some n → AskForMade words n
+made_of-AskForMade [] n is = absurd (cc)
+made_of-AskForMade (word ∷ []) n is = absurd (cc)
+made_of-AskForMade (word ∷ number ∷ []) n is = made_of_by word number n (bytes_eq word (codes "--make")) refl is
+made_of-AskForMade (word ∷ number ∷ third ∷ words) n is = absurd (cc)
+
+-- `--make` begins no items
+no_items : (words : List (List ℕ)) (n : ℕ) → AskForMade words n → items_job words ≡ None
+no_items words n asks = rw asks.1 refl
+
+-- what is made comes first, and words that ask for it ask for nothing else
+made_or-is : (made : Option ℕ) (items : Option Job) (index : ℕ) (seed : Option ℕ) (workers : ℕ) → ((n : ℕ) → made ≡ Some n → items ≡ None)
+    → (made_or made items ≡ Some (File index seed workers)) ↔ (items ≡ Some (File index seed workers))
+made_or-is None items index seed workers apart = (λ is. is, λ is. is)
+made_or-is (Some n) items index seed workers apart =
+    (λ is. absurd (cc), λ is. let none : items ≡ None = apart n refl in absurd (cc))
+
+-- words ask for a run of a file exactly where they spell one name, at most one seed and at most one number of workers
+pub job_of-AskForRun : (words : List (List ℕ)) (index : ℕ) (seed : Option ℕ) (workers : ℕ) → (job_of words ≡ Some (File index seed workers)) ↔ AskForRun words index seed workers
+job_of-AskForRun words index seed workers =
+    let items = items_job-AskForRun words index seed workers in
+    let made = made_or-is (made_of words) (items_job words) index seed workers (λ n is. no_items words n (made_of-AskForMade words n is)) in
+    (λ is. items.0 (made.0 is), λ asks. made.1 (items.1 asks))

@@ -1,12 +1,14 @@
 -- What the status of an answer says, by what the answer goes with.
-use Rattle.std.proofs.Common.{◌≡◌, Option, None, Some, IfSome, Result, Ok, Err, sym, subst}
-use Rattle.smol_edge.specs.Faults.{Tells}
+use Rattle.std.proofs.Common.{◌≡◌, ℕ, Option, None, Some, IfSome, Result, Ok, Err, sym, ◌∙◌, subst}
+use Rattle.smol_edge.specs.Faults.{Rose, Tells}
 use Rattle.smol_edge.specs.Outlets.{Written}
 use Rattle.smol_edge.specs.Source.{Reading}
 use Rattle.smol_run.specs.declared.status.Status.{Status}
+use Rattle.smol_run.specs.declared.status.Status.TheVariants as status
 use Rattle.smol_run.specs.declared.stop.Stop.{Stop}
 use Rattle.smol_run.specs.declared.stop.Stop.TheVariants as stop
-use Rattle.smol_run.specs.Ends.{EndsWithSome, GoesWithSome, IsDefinite, IsLost, IsUnread}
+use Rattle.smol_run.specs.declared.words.Job.{Job}
+use Rattle.smol_run.specs.Ends.{CountsReads, CountsWrites, EndsWithSome, FitsWords, GoesWithSome, IsDefinite, IsLost, IsRun, IsUnread}
 use Rattle.smol_run.specs.Outcome.{Outcome}
 use Rattle.smol_run.specs.Told.{status_told}
 use Rattle.smol_run.proofs.Cuts.{ends_told}
@@ -32,3 +34,24 @@ pub absent_is_lost : (outcome : Reading → Option Outcome) (made : Result Statu
     → IfSome a (λ reading. outcome reading ≡ None → IsLost status)
 absent_is_lost outcome made status None is unread = tt
 absent_is_lost outcome made status (Some reading) is unread = λ absent. subst IsLost (sym is) (unread_is_lost made (unread absent))
+
+-- a status that words may end with says of no read that it failed, and of no write
+fits_no_fault : (job : Option Job) (own : Status) → FitsWords job (Ok own) → (own ≡ status.Input → ⊥) × (own ≡ status.Output → ⊥)
+fits_no_fault None own fits = (λ is. absurd (cc), λ is. absurd (cc))
+fits_no_fault (Some job) own fits = (λ is. subst IsRun is fits, λ is. subst IsRun is fits)
+
+-- a call ends with the status of a failed read only where one failed
+pub read_failed : (job : Option Job) (made : Result Status Stop) (own : Status) (before after : ℕ)
+    → own ≡ status_told made → FitsWords job made → CountsReads made before after → own ≡ status.Input → Rose before after
+read_failed job (Ok other) own before after is fits counts input = absurd ((fits_no_fault job other fits).0 (sym is ∙ input))
+read_failed job (Err stop.Input) own before after is fits counts input = counts
+read_failed job (Err stop.Output) own before after is fits counts input = absurd (cc)
+read_failed job (Err stop.Memory) own before after is fits counts input = absurd (cc)
+
+-- and with that of a failed write only where one failed
+pub write_failed : (job : Option Job) (made : Result Status Stop) (own : Status) (before after : ℕ)
+    → own ≡ status_told made → FitsWords job made → CountsWrites made before after → own ≡ status.Output → Rose before after
+write_failed job (Ok other) own before after is fits counts output = absurd ((fits_no_fault job other fits).1 (sym is ∙ output))
+write_failed job (Err stop.Input) own before after is fits counts output = absurd (cc)
+write_failed job (Err stop.Output) own before after is fits counts output = counts
+write_failed job (Err stop.Memory) own before after is fits counts output = absurd (cc)

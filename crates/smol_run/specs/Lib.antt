@@ -1,5 +1,6 @@
 pub mod Status
 pub mod Words
+pub mod Generated
 pub mod Outcome
 pub mod Asked
 pub mod Opening

@@ -12,7 +12,8 @@ use Rattle.smol_meaning.specs.Run.{run_of}
 use Rattle.smol_run.specs.declared.status.Status.{Status}
 use Rattle.smol_run.specs.declared.status.Status.TheVariants as status
 use Rattle.smol_run.specs.declared.words.Job.{Job}
-use Rattle.smol_run.specs.declared.words.Job.TheVariants.{File}
+use Rattle.smol_run.specs.declared.words.Job.TheVariants.{File, Make}
+use Rattle.smol_run.specs.Generated.{generated}
 use Rattle.smol_run.specs.Words.{job_of}
 
 -- a status, the names of the files that are opened for writing, and the bytes that are written, each with its outlet
@@ -79,10 +80,11 @@ abbrev pub outcome_of_file : Option ℕ → Option (List ℕ) → Option Outcome
 outcome_of_file seed None = None
 outcome_of_file seed (Some text) = Some (outcome_of_text seed text)
 
--- the text is the contents of the file that is named
+-- the text is the contents of the file that is named, or the one that is made, which is run without a seed of the words
 abbrev pub outcome_of_job : Option Job → List (List ℕ) → (List ℕ → Option (List ℕ)) → Option Outcome
 outcome_of_job None words contents = Some misused
 outcome_of_job (Some (File index seed workers)) words contents = outcome_of_file seed (contents (slice_index_or words index []))
+outcome_of_job (Some (Make n)) words contents = Some (outcome_of_text None (generated n))
 
 -- what the words of the command line give over these files
 abbrev pub outcome_of : List (List ℕ) → (List ℕ → Option (List ℕ)) → Option Outcome

@@ -12,7 +12,8 @@ use Rattle.smol_meaning.specs.Seen.{IsClosedBox, plates_of}
 use Rattle.smol_meaning.specs.Stretch.{Stretch}
 use Rattle.smol_confined.specs.Laws.{EventsOfRunAreConfined, RunIsConfined}
 use Rattle.smol_run.specs.declared.words.Job.{Job}
-use Rattle.smol_run.specs.declared.words.Job.TheVariants.{File}
+use Rattle.smol_run.specs.declared.words.Job.TheVariants.{File, Make}
+use Rattle.smol_run.specs.Generated.{generated}
 use Rattle.smol_run.specs.Outcome.{seed_of}
 
 -- no way of the run crosses a face that reflects its species, each way that starts inside a box that is closed for some species, its
@@ -41,3 +42,4 @@ FileGoesSafely seed (Some text) = TextGoesSafely seed text
 abbrev pub JobGoesSafely : Option Job → List (List ℕ) → (List ℕ → Option (List ℕ)) → Type 0
 JobGoesSafely None words contents = Unit {0}
 JobGoesSafely (Some (File index seed workers)) words contents = FileGoesSafely seed (contents (slice_index_or words index []))
+JobGoesSafely (Some (Make n)) words contents = TextGoesSafely None (generated n)

@@ -7,7 +7,7 @@ use Rattle.std.specs.Str.{bytes_eq}
 use Rattle.smol_num.specs.Digits.{count_of}
 use Rattle.smol_line.specs.Numbers.{count_in}
 use Rattle.smol_run.specs.declared.words.Job.{Job}
-use Rattle.smol_run.specs.declared.words.Job.TheVariants.{File}
+use Rattle.smol_run.specs.declared.words.Job.TheVariants.{File, Make}
 use Rattle.smol_run.specs.declared.words.Item.{Item}
 use Rattle.smol_run.specs.declared.words.Item.TheVariants.{Name, Seed, Workers}
 use Rattle.smol_run.specs.declared.words.Found.{Found}
@@ -88,22 +88,61 @@ file_job names seeds worker_counts =
     (optional_entry seeds))
     (only_entry names)
 
--- words that spell items ask for what the items ask for. Every other list of words is refused
-abbrev pub job_of : List (List ℕ) → Option Job
-job_of words = option_and_then (λ items. file_job (names_in items) (seeds_in items) (worker_counts_in items)) (items_of 0 words)
+-- words that spell items ask for what the items ask for
+abbrev pub items_job : List (List ℕ) → Option Job
+items_job words = option_and_then (λ items. file_job (names_in items) (seeds_in items) (worker_counts_in items)) (items_of 0 words)
 
--- the file's name is one of so many words
+-- a number of molecules: 1 to 20 decimal digits, from 1 to 1,000,000
+abbrev pub molecules_in : List ℕ → Option ℕ
+molecules_in word = result_ok (count_in 1 1000000 word)
+
+-- the number behind `--make`, where these are all words
+abbrev pub made_of : List (List ℕ) → Option ℕ
+made_of [] = None
+made_of (word ∷ []) = None
+made_of (word ∷ number ∷ []) = if bytes_eq word (codes "--make") then molecules_in number else None
+made_of (word ∷ number ∷ third ∷ words) = None
+
+-- a run of the text that is made for so many molecules, or else this
+abbrev pub made_or : Option ℕ → Option Job → Option Job
+made_or (Some n) job = Some (Make n)
+made_or None job = job
+
+-- `--make` and a number ask for a run of the text that is made, and words that spell items for what the items ask for. Every other
+-- list of words is refused
+abbrev pub job_of : List (List ℕ) → Option Job
+job_of words = made_or (made_of words) (items_job words)
+
+-- the file's name is one of so many words, where there is one
 abbrev pub NamesWord : ℕ → Job → Type 0
 NamesWord count (File index seed workers) = index < count
+NamesWord count (Make n) = Unit {0}
 
 -- there are 1 to 16 workers
 pub record AreWorkers (workers : ℕ) : Type 0 where
   pub least : 1 ≤ workers
   pub most : workers ≤ 16
 
--- 1 to 16 workers run the file
+-- 1 to 16 workers run the file, where there is one
 abbrev pub RunsByWorkers : Job → Type 0
 RunsByWorkers (File index seed workers) = AreWorkers workers
+RunsByWorkers (Make n) = Unit {0}
+
+-- there are 1 to 1,000,000 molecules
+pub record AreMolecules (n : ℕ) : Type 0 where
+  pub least : 1 ≤ n
+  pub most : n ≤ 1000000
+
+-- a text is made for 1 to 1,000,000 molecules alone
+abbrev pub MakesMolecules : Job → Type 0
+MakesMolecules (File index seed workers) = Unit {0}
+MakesMolecules (Make n) = AreMolecules n
+
+-- the words name no file: they are refused, or ask for a text that is made
+abbrev pub NamesNoFile : Option Job → Type 0
+NamesNoFile None = Unit {0}
+NamesNoFile (Some (File index seed workers)) = ⊥
+NamesNoFile (Some (Make n)) = Unit {0}
 
 -- how many words spell the item
 abbrev pub item_len : Item → ℕ

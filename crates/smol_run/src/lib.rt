@@ -6,6 +6,7 @@ mod caller;
 mod ended;
 mod error_lines;
 mod loss;
+mod make;
 #[cfg(test)]
 mod meeting;
 mod outputs;
@@ -18,6 +19,7 @@ mod stop;
 mod tests;
 mod words;
 
+pub use make::make_config;
 pub use program::run_program;
 pub use status::Status;
 pub use words::{Job, WordFault, read_words};

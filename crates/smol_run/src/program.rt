@@ -1,7 +1,8 @@
 //! The top call.
 ghost use Rattle.std.specs.Prelude.{◌≡◌, ◌≢◌, ◌≤◌, None, map, string_bytes, IfOk, IfSome};
 ghost use Rattle.smol_edge.specs.Faults.{Rose, Tells};
-ghost use Rattle.smol_run.specs.Words.{job_of};
+ghost use Rattle.smol_run.specs.Words.{job_of, NamesNoFile};
+ghost use Rattle.smol_run.specs.Generated.{generated};
 ghost use Rattle.smol_run.specs.Asked.{AsksForJob, AsksOnce};
 ghost use Rattle.smol_run.specs.Ends.{CountsLoss, CountsReads, CountsWrites, EndsWithSome, FitsWords, GoesWith, GoesWithSome, IsDefinite, IsFrontOf, IsLost, IsMisuse, IsRun, IsUnread};
 ghost use Rattle.smol_run.specs.Ways.{JobGoesSafely};
@@ -9,6 +10,7 @@ ghost use Rattle.smol_run.specs.Outcome.{outcome_of, outcome_of_file, outcome_of
 
 use crate::error_lines::{fault_text, tell};
 use crate::loss::Loss;
+use crate::make::make_config;
 use crate::refusal::{refusal_of, refusal_of_take};
 use crate::run::run_config;
 use crate::status::{Status, status_told};
@@ -22,6 +24,9 @@ use std::thread::Threads;
 
 /// How long a configuration may be, in bytes.
 const MOST_BYTES: usize = 4_194_304;
+
+/// How many workers run a text that is made.
+const MAKE_WORKERS: u32 = 4;
 
 const USAGE: &[u8] = b"usage: smol FILE [--seed N] [--workers N] or smol --make N\n";
 
@@ -61,10 +66,10 @@ pub fn run_program<R: Threads + Sync, S: Source, K: Outlets, G: Gate + Sync>(
     ensures output { result ≡ Status.Output → Rose (K.faults outlets.old) (K.faults outlets.new) }
     ensures no_output { result ≢ Status.Output → K.faults outlets.new ≡ K.faults outlets.old }
 
-    // Words that ask for nothing are told so, unless that can't be written, and no file is touched for them.
+    // Words that ask for nothing are told so, unless that can't be written, and no file is touched for words that name none.
     ensures usage { result ≡ Status.Usage → job_of (map (λ word. string_bytes word) words.now) ≡ None }
     ensures misused { job_of (map (λ word. string_bytes word) words.now) ≡ None → IsMisuse result }
-    ensures untouched { job_of (map (λ word. string_bytes word) words.now) ≡ None → source.new ≡ source.old }
+    ensures untouched { NamesNoFile (job_of (map (λ word. string_bytes word) words.now)) → source.new ≡ source.old }
     ensures asked { Tells (S.told source.old) (S.told source.new)
         (AsksForJob (job_of (map (λ word. string_bytes word) words.now)) (map (λ word. string_bytes word) words.now)) }
 {
@@ -87,7 +92,7 @@ fn run_words<R: Threads + Sync, S: Source, K: Outlets, G: Gate + Sync>(
     ensures absent { IfSome (S.told source.old) (λ reading.
         outcome_of (map (λ word. string_bytes word) words.now) reading.contents ≡ None → IsUnread result) }
     ensures fits { FitsWords (job_of (map (λ word. string_bytes word) words.now)) result }
-    ensures untouched { job_of (map (λ word. string_bytes word) words.now) ≡ None → source.new ≡ source.old }
+    ensures untouched { NamesNoFile (job_of (map (λ word. string_bytes word) words.now)) → source.new ≡ source.old }
     ensures asked { Tells (S.told source.old) (S.told source.new)
         (AsksForJob (job_of (map (λ word. string_bytes word) words.now)) (map (λ word. string_bytes word) words.now)) }
     ensures reads { CountsReads result (S.faults source.old) (S.faults source.new) }
@@ -112,6 +117,7 @@ fn run_words<R: Threads + Sync, S: Source, K: Outlets, G: Gate + Sync>(
                 gate,
             )
         }
+        Ok(Job::Make { n }) => Ok(run_made(rt, alloc, n, outlets, gate)?),
         Err(_) => {
             tell(outlets, USAGE)?;
             Ok(Status::Usage)
@@ -168,6 +174,25 @@ fn run_text<R: Threads + Sync, K: Outlets, G: Gate + Sync>(
             refuse(alloc, outlets, refusal.line, refusal.kind.text())
         }
     }
+}
+
+// Runs the text that is made for so many molecules, without a seed of the words.
+fn run_made<R: Threads + Sync, K: Outlets, G: Gate + Sync>(
+    rt: &R,
+    alloc: Global,
+    n: u32,
+    outlets: &mut K,
+    gate: &G,
+) -> Result<Status, Loss>
+    requires opened { K.opened outlets.old ≡ 0 }
+    requires least { 1 ≤ n }
+    requires most { n ≤ 1000000 }
+    ensures ended { Tells (K.told outlets.old) (K.told outlets.new) (GoesWith (outcome_of_text None (generated n)) result) }
+    ensures status { IfOk result IsRun }
+    ensures faults { CountsLoss result (K.faults outlets.old) (K.faults outlets.new) }
+{
+    let text = make_config(alloc, n)?;
+    run_text(rt, alloc, &text, None, MAKE_WORKERS, outlets, gate)
 }
 
 // Runs the file of this name, with the seed and by the workers that the words give.

@@ -1,6 +1,6 @@
 //! Runs over memory: what they end with, and what they write.
 use crate::caller::printed;
-use crate::{Status, run_program};
+use crate::{Status, make_config, run_program};
 use smol_edge::{MemOutlets, MemSource, Open};
 use std::alloc::{AllocError, Global};
 use std::process::Abort;
@@ -122,6 +122,12 @@ fn ends_with_status_and_bytes(rt: HostRuntime) -> Result<(), Fail> {
             words: &["--"],
             failing_writes: &[1],
             ..unwritten
+        },
+        Row {
+            words: &["--make", "2"],
+            failing_reads: &[1],
+            stdout: "time A B C\n0 1 1 0\n5 1 1 0\n10 1 1 0\n",
+            ..counted
         },
     ];
     for row in &rows {
@@ -288,5 +294,44 @@ fn lines_before_a_failing_write_stay(rt: HostRuntime) -> Result<(), Fail> {
         stderr: "",
     };
     meets(&rt, &row)?;
+    Ok(())
+}
+
+/// The text with seven molecules.
+const SEVEN: [&str; 28] = [
+    "dim 3",
+    "species A B C",
+    "difstep A 0.5",
+    "difstep B 0.5",
+    "difstep C 0.25",
+    "boundaries x 0 100 r",
+    "boundaries y 0 100 r",
+    "boundaries z 0 100 r",
+    "max_mol 1000000",
+    "random_seed 7",
+    "time_start 0",
+    "time_stop 10",
+    "time_step 1",
+    "start_surface box",
+    "action both all reflect",
+    "panel rect +0 40 40 40 20 20",
+    "panel rect -0 60 40 40 20 20",
+    "panel rect +1 40 40 40 20 20",
+    "panel rect -1 40 60 40 20 20",
+    "panel rect +2 40 40 40 20 20",
+    "panel rect -2 40 40 60 20 20",
+    "end_surface",
+    "mol 3 A u u u",
+    "mol 4 B u u u",
+    "reaction bind A + B -> C",
+    "binding_radius bind 1",
+    "cmd b molcountheader stdout",
+    "cmd n 5 molcount stdout",
+];
+
+#[test]
+fn a_text_is_made(rt: HostRuntime) -> Result<(), Fail> {
+    let text = make_config(rt.alloc(), 7)?;
+    assert_eq!(rt; text.as_slice(), text_of(rt.alloc(), &SEVEN)?.as_bytes());
     Ok(())
 }

@@ -1,14 +1,17 @@
 //! The words of the command line.
-ghost use Rattle.std.specs.Prelude.{◌≡◌, ◌+◌, ◌<◌, None, IfOk, MatchResult, drop, length, map, string_bytes, unwrap_or};
+ghost use Rattle.std.specs.Prelude.{◌≡◌, ◌+◌, ◌<◌, None, IfOk, IfSome, MatchResult, drop, length, map, string_bytes, unwrap_or};
 ghost use Rattle.std.specs.Result.{result_ok};
 ghost use Rattle.std.specs.Option.{option_map};
-ghost use Rattle.smol_run.specs.Words.{AreWorkers, Finds, is_file_name, IsSecond, item_of_two, items_of, job_of, NamesWord, RunsByWorkers, seed_in, StandsAt, item_len, workers_in};
+ghost use Rattle.smol_run.specs.Words.{AreMolecules, AreWorkers, Finds, is_file_name, IsSecond, item_of_two, items_job, items_of, job_of, made_of, MakesMolecules, molecules_in, NamesWord, RunsByWorkers, seed_in, StandsAt, item_len, workers_in};
 
 use smol_line::count_in;
 use smol_num::read_digits;
 
 /// The most workers that a run may have.
 const MOST_WORKERS: u64 = 16;
+
+/// The most molecules for which a text is made.
+const MOST_MOLECULES: u64 = 1_000_000;
 
 /// What the words ask for.
 #[derive(Clone, Copy, Debug, PartialEq, Eq)]
@@ -19,6 +22,10 @@ pub enum Job {
         index: usize,
         seed: Option<u64>,
         workers: u32,
+    },
+    /// A run of the text that is made for `n` molecules, 1 to 1,000,000.
+    Make {
+        n: u32,
     },
 }
 
@@ -76,6 +83,33 @@ pub fn read_words(words: &[String]) -> Result<Job, WordFault>
     ensures job { result_ok result ≡ job_of (map (λ word. string_bytes word) words.now) }
     ensures named { IfOk result (NamesWord (length words.now)) }
     ensures workers { IfOk result RunsByWorkers }
+    ensures molecules { IfOk result MakesMolecules }
+{
+    match made_of(words) {
+        Some(n) => Ok(Job::Make { n }),
+        None => items_job(words),
+    }
+}
+
+// The number behind `--make`, where these are all words.
+fn made_of(words: &[String]) -> Option<u32>
+    ensures value { result ≡ made_of (map (λ word. string_bytes word) words.now) }
+    ensures within { IfSome result AreMolecules }
+{
+    match words {
+        [word, number] if word.as_bytes() == b"--make".as_slice() => molecules_in(
+            number.as_bytes(),
+        ),
+        _ => None,
+    }
+}
+
+// What the items that the words spell ask for.
+fn items_job(words: &[String]) -> Result<Job, WordFault>
+    ensures job { result_ok result ≡ items_job (map (λ word. string_bytes word) words.now) }
+    ensures named { IfOk result (NamesWord (length words.now)) }
+    ensures workers { IfOk result RunsByWorkers }
+    ensures molecules { IfOk result MakesMolecules }
 {
     let mut found = Found {
         name: None,
@@ -141,6 +175,16 @@ fn seed_in(word: &[u8]) -> Result<u64, WordFault>
     ensures { result_ok result ≡ seed_in word.now }
 {
     read_digits(word, u64::MAX).map_err(|_| WordFault)
+}
+
+fn molecules_in(word: &[u8]) -> Option<u32>
+    ensures value { result ≡ molecules_in word.now }
+    ensures within { IfSome result AreMolecules }
+{
+    match count_in(1, MOST_MOLECULES, word) {
+        Ok(n) => Some(n as u32),
+        Err(_) => None,
+    }
 }
 
 fn workers_in(word: &[u8]) -> Result<u32, WordFault>

@@ -5,7 +5,7 @@ use Rattle.smol_run.specs.Outcome.{outcome_of}
 use Rattle.smol_run.specs.Words.{job_of}
 use Rattle.smol_run.proofs.Cuts.{front_told}
 use Rattle.smol_run.proofs.Safety.{all_safe}
-use Rattle.smol_run.proofs.Statuses.{absent_is_lost, definite_ends}
+use Rattle.smol_run.proofs.Statuses.{absent_is_lost, definite_ends, read_failed, write_failed}
 use Rattle.smol_run.proofs.program.run_program.Goals as goal
 
 pub returns-clause-outcome : goal.returns-clause-outcome
@@ -27,3 +27,13 @@ pub returns-clause-ways : goal.returns-clause-ways
 returns-clause-ways g c =
     let words = map (λ word. string_bytes word) c.args.words.now in
     all_safe (job_of words) words (g.S.Source.told c.args.source.now)
+
+pub returns-clause-input : goal.returns-clause-input
+returns-clause-input g c =
+    read_failed (job_of (map (λ word. string_bytes word) c.args.words.now)) c.run_words-made.result c.status_told.result _ _
+    c.status_told.ensures c.run_words-made.ensures.fits c.run_words-made.ensures.reads
+
+pub returns-clause-output : goal.returns-clause-output
+returns-clause-output g c =
+    write_failed (job_of (map (λ word. string_bytes word) c.args.words.now)) c.run_words-made.result c.status_told.result _ _
+    c.status_told.ensures c.run_words-made.ensures.fits c.run_words-made.ensures.writes

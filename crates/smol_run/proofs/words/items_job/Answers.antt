@@ -1,13 +1,13 @@
 use Rattle.std.proofs.Common.{◌≡◌, ◌∙◌, ap, length, map, None, string_bytes, arith, rules}
 use Rattle.std.proofs.lemmas.List.{length-map}
-use Rattle.smol_run.specs.Words.{job_of}
+use Rattle.smol_run.specs.Words.{items_job}
 use Rattle.smol_run.proofs.Items.{job_of_more, job_of_more-Finds, job_of_more-IsSecond, named-Finds, workers-Finds}
-use Rattle.smol_run.proofs.words.read_words.Goals as goal
+use Rattle.smol_run.proofs.words.items_job.Goals as goal
 
 -- the item is a second of its kind
 pub returns-in_err-add-clause-job : goal.returns-in_err-add-clause-job
 returns-in_err-add-clause-job c =
-    let none : job_of (map string_bytes c.args.words.now) ≡ None =
+    let none : items_job (map string_bytes c.args.words.now) ≡ None =
     c.loop-index.invariant.same ∙ ap (job_of_more c.loop-index.found) c.in_ok-item.ensures.first ∙ job_of_more-IsSecond c.in_ok-item.item c.loop-index.found _ c.in_err-add.ensures in
     rw none (search rules)
 
