@@ -1,5 +1,4 @@
 //! The search of all pairs, with which that by boxes is compared.
-ghost use Rattle.std.specs.Prelude.{◌≡◌, ◌<◌, length};
 ghost use Rattle.smol_pairs.specs.Moved.{AreMoved};
 ghost use Rattle.smol_pairs.specs.Ranked.{IsRanked};
 

@@ -1,5 +1,5 @@
 //! The grid in which seekers look for each other. Whichever it is, they find the same.
-ghost use Rattle.std.specs.Prelude.{◌≡◌, ◌+◌, ◌*◌, ◌^◌, ◌<◌, ◌≤◌, length, All, unsigned_abs, ◌≤ℤ◌};
+ghost use Rattle.std.specs.Prelude.{◌^◌, ◌≤◌, ◌≤ℤ◌, All, unsigned_abs};
 ghost use Rattle.smol_geom.specs.Axes.{IsWithin};
 ghost use Rattle.smol_cells.specs.Numbered.{IsFilled};
 ghost use Rattle.smol_pairs.specs.declared.seeker.Seeker.{Seeker};
