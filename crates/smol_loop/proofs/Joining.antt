@@ -35,6 +35,7 @@ all_left total a l = record {
   faults = refl;
 }
 
+-- the pieces of a first part that goes on come before what follows
 goes_behind : (done : List Piece) (one : Stretch) (next : State → Stretch) (total : Stretch) (state : State) → Behind done (followed_by one next) total → EndsPart one state (Ok Go) → Behind (done ++ one.pieces) (next state) total
 goes_behind done one next total state behind ends =
     let is : followed_by one next ≡ joined one (next one.last) = ap (λ (ending : Ending). followed_if one ending next) ends.1 in
@@ -56,7 +57,7 @@ goes_on {one} {total} {state} {a} {b} {c} next left first = record {
   faults = first.faults ∙ left.faults;
 }
 
--- the last part of a whole ends as the whole does
+-- the last part of a whole ends as the whole does, and gives the pieces that it lacks
 last_ends : (done : List Piece) (one total : Stretch) (state : State) (result : Result Flow RunFault) → Behind done one total → EndsPart one state result → EndsPart total state result
 last_ends done one total state (Ok flow) behind ends = (ends.0 ∙ sym behind.last, behind.ending ∙ ends.1)
 last_ends done one total state (Err (fault.NoPlace line serial)) behind ends = absurd ends
@@ -64,7 +65,7 @@ last_ends done one total state (Err (fault.TooManyMolecules step)) behind ends =
 last_ends done one total state (Err fault.OutputFault) behind ends = tt
 last_ends done one total state (Err fault.OutOfMemory) behind ends = tt
 
-last_gives : {T : Type 0} (done : List Piece) (one total : Stretch) (result : Result T RunFault) (a b c : Option Written) → Behind done one total → Tells a b (Appends done) → Tells b c (GivesPart one.pieces result) → Tells a c (GivesPart total.pieces result)
+last_gives : (done : List Piece) (one total : Stretch) (result : Result Flow RunFault) (a b c : Option Written) → Behind done one total → Tells a b (Appends done) → Tells b c (GivesPart one.pieces result) → Tells a c (GivesPart total.pieces result)
 last_gives done one total (Ok flow) a b c behind first second = subst (λ pieces. Tells a c (Appends pieces)) (sym behind.pieces) (Tells-then a b c _ _ _ (Appends-then done one.pieces) first second)
 last_gives done one total (Err (fault.NoPlace line serial)) a b c behind first second = subst (λ pieces. Tells a c (Appends pieces)) (sym behind.pieces) (Tells-then a b c _ _ _ (Appends-then done one.pieces) first second)
 last_gives done one total (Err (fault.TooManyMolecules step)) a b c behind first second = subst (λ pieces. Tells a c (Appends pieces)) (sym behind.pieces) (Tells-then a b c _ _ _ (Appends-then done one.pieces) first second)

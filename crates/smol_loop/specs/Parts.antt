@@ -54,7 +54,7 @@ pub record Leaves (part : Stretch) (result : Result Flow RunFault) (last : State
   pub faults : CountsFault result before after
 
 -- behind a part the words are those of the seed and the files are opened, and where it didn't fail all is there for the next part
-pub record StaysReady {T : Type 0} (draft : Draft) (seed opened : ℕ) (result : Result T RunFault) (held : Held) : Type 0 where
+pub record StaysReady (draft : Draft) (seed opened : ℕ) (result : Result Flow RunFault) (held : Held) : Type 0 where
   pub words : held.streams ≡ seed
   pub files : opened ≡ length draft.outputs
   pub next : OnOk result (IsReady draft seed opened held)
