@@ -12,7 +12,7 @@ boxes-requires-clause-filled c =
     let search = c.args.search.now in
     let here = place_in search c.args.place in
     filled_by c.around-around.result here
-    (c.around-around.ensures.has here (small_place search c.args.place c.requires) (near_itself search here search.reach))
+    (c.around-around.ensures.has here (small_place search c.args.place c.requires) (near_itself here _))
 
 pub returns-clause-inside : goal.returns-clause-inside
 returns-clause-inside c =
