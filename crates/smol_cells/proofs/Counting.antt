@@ -1,5 +1,5 @@
 -- Indexes, one after the other.
-use Rattle.std.proofs.Common.{◌≡◌, ◌∙◌, ℕ, zero, suc, ◌+◌, ◌-◌, ◌<◌, ◌≤◌, List, [], ◌∷◌, ◌++◌, Bool, true, false, map, refl, sym, ap, add-one, zero-add, arith}
+use Rattle.std.proofs.Common.{◌≡◌, ◌∙◌, ℕ, zero, suc, ◌+◌, ◌-◌, ◌<◌, ◌≤◌, List, [], ◌∷◌, ◌++◌, Bool, true, false, length, map, refl, sym, ap, add-one, zero-add, arith}
 use Rattle.std.specs.Prelude.{filter, flat_map}
 use Rattle.std.proofs.lemmas.List.{flat_map_more, map_push, map-id, append_assoc}
 use Rattle.std.proofs.lemmas.Bool.{false≢true}
@@ -15,6 +15,13 @@ counted_push first (suc count) =
 
 pub indexes_push : (count : ℕ) → indexes count ++ count ∷ [] ≡ indexes (count + 1)
 indexes_push count = ap (λ n. indexes count ++ n ∷ []) (sym (zero-add count)) ∙ counted_push 0 count ∙ ap indexes (sym (add-one count))
+
+length_counted : (first count : ℕ) → length (counted first count) ≡ count
+length_counted first zero = refl
+length_counted first (suc count) = ap suc (length_counted (suc first) count)
+
+pub length_indexes : (count : ℕ) → length (indexes count) ≡ count
+length_indexes count = length_counted 0 count
 
 -- the numbers up to the next one
 counted_more : (first n : ℕ) → first ≤ n → counted first (n - first) ++ n ∷ [] ≡ counted first (n + 1 - first)
