@@ -5,8 +5,6 @@ mod compartment;
 mod draw;
 mod opening;
 mod place_fault;
-#[cfg(test)]
-mod tests;
 
 pub use compartment::inside;
 pub use opening::place_all;

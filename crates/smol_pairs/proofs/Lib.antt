@@ -14,4 +14,3 @@ pub mod RisingLists
 pub mod RowLemmas
 pub mod SearchLemmas
 pub mod SeekerLemmas
-pub mod TestedBox

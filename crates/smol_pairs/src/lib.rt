@@ -1,10 +1,6 @@
 //! Which pairs of molecules may react in a step.
 #![tactic(auto)]
 
-#[cfg(test)]
-mod all_pairs;
-#[cfg(test)]
-mod compared;
 mod encounter;
 mod finding;
 mod grid;
@@ -19,8 +15,6 @@ mod reaches;
 mod rows;
 mod search;
 mod seeker;
-#[cfg(test)]
-mod tests;
 
 pub use encounter::Encounter;
 pub use finding::encounters;

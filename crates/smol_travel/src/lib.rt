@@ -11,6 +11,3 @@ mod walk;
 pub use smol_meaning::Travelled;
 pub use smol_sheets::Panels;
 pub use walk::travel;
-
-#[cfg(test)]
-mod tests;

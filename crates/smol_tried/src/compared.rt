@@ -1,10 +1,10 @@
 //! The search by boxes finds what the search of all pairs finds.
-ghost use Rattle.std.specs.Prelude.{◌≡◌, All, length};
-ghost use Rattle.smol_types.specs.declared.reaction.Reaction.{Reaction};
 ghost use Rattle.smol_pairs.specs.Moved.{AreMoved};
 
 use crate::all_pairs::all_pairs;
-use crate::tests::{TOGETHER, met, tested_box};
+use crate::moved::are_moved;
+use crate::pairs::{DIVIDED, TOGETHER, met};
+use crate::reading::read;
 use smol_geom::Place;
 use smol_sheets::Panels;
 use smol_types::{Config, Mol};
@@ -83,8 +83,7 @@ fn found_by_both<R: Threads + Sync>(
     config: &Config,
     mols: &[Mol],
 ) -> Result<Option<usize>, AllocError>
-    requires moved { AreMoved config.now mols.now }
-    requires two { All (λ (reaction : Reaction). length reaction.reactants ≡ 2) config.now.reactions }
+    requires { AreMoved config.now mols.now }
 {
     let panels = Panels::of(alloc, config)?;
     let by_boxes = met(rt, alloc, config, mols)?;
@@ -99,7 +98,8 @@ fn found_by_both<R: Threads + Sync>(
 #[test]
 fn a_crowd_is_searched_alike(rt: HostRuntime) -> Result<(), Fail> {
     let alloc = rt.alloc();
-    let config = tested_box(alloc)?;
+    let config = read(alloc, DIVIDED)?;
+    assert!(rt; are_moved(&config, &CROWD));
     assert_eq!(rt; found_by_both(&rt, alloc, &config, &CROWD)?, Some(11));
     Ok(())
 }
@@ -107,7 +107,8 @@ fn a_crowd_is_searched_alike(rt: HostRuntime) -> Result<(), Fail> {
 #[test]
 fn molecules_as_far_apart_as_radii_are_searched_alike(rt: HostRuntime) -> Result<(), Fail> {
     let alloc = rt.alloc();
-    let config = tested_box(alloc)?;
+    let config = read(alloc, DIVIDED)?;
+    assert!(rt; are_moved(&config, &LATTICE));
     assert_eq!(rt; found_by_both(&rt, alloc, &config, &LATTICE)?, Some(31));
     Ok(())
 }
@@ -115,7 +116,8 @@ fn molecules_as_far_apart_as_radii_are_searched_alike(rt: HostRuntime) -> Result
 #[test]
 fn molecules_beyond_walls_are_searched_alike(rt: HostRuntime) -> Result<(), Fail> {
     let alloc = rt.alloc();
-    let config = tested_box(alloc)?;
+    let config = read(alloc, DIVIDED)?;
+    assert!(rt; are_moved(&config, &OUTSIDE));
     assert_eq!(rt; found_by_both(&rt, alloc, &config, &OUTSIDE)?, Some(6));
     Ok(())
 }
@@ -123,7 +125,8 @@ fn molecules_beyond_walls_are_searched_alike(rt: HostRuntime) -> Result<(), Fail
 #[test]
 fn molecules_of_which_one_is_far_away_are_searched_alike(rt: HostRuntime) -> Result<(), Fail> {
     let alloc = rt.alloc();
-    let config = tested_box(alloc)?;
+    let config = read(alloc, DIVIDED)?;
+    assert!(rt; are_moved(&config, &FAR));
     assert_eq!(rt; found_by_both(&rt, alloc, &config, &FAR)?, Some(5));
     Ok(())
 }
@@ -131,7 +134,8 @@ fn molecules_of_which_one_is_far_away_are_searched_alike(rt: HostRuntime) -> Res
 #[test]
 fn molecules_at_one_place_are_searched_alike(rt: HostRuntime) -> Result<(), Fail> {
     let alloc = rt.alloc();
-    let config = tested_box(alloc)?;
+    let config = read(alloc, DIVIDED)?;
+    assert!(rt; are_moved(&config, &TOGETHER));
     assert_eq!(rt; found_by_both(&rt, alloc, &config, &TOGETHER)?, Some(8));
     Ok(())
 }
