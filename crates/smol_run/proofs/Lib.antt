@@ -6,3 +6,6 @@ pub mod EndedRuns
 pub mod Files
 pub mod Safety
 pub mod Statuses
+pub mod PlainText
+pub mod MadeLines
+pub mod MadeRead

@@ -9,7 +9,7 @@ use Rattle.std.proofs.lemmas.Slice.Eq.{bytes_eq-Decides}
 use Rattle.smol_run.specs.declared.words.Item.{Item}
 use Rattle.smol_run.specs.declared.words.Item.TheVariants.{Name, Seed, Workers}
 use Rattle.smol_run.specs.declared.words.Job.{Job}
-use Rattle.smol_run.specs.declared.words.Job.TheVariants.{File, Make}
+use Rattle.smol_run.specs.declared.words.Job.TheVariants.{File}
 use Rattle.smol_run.specs.Words.{is_file_name, item_of_two, items_of, job_by, job_of, joined_items, names_in, only_entry, optional_entry, file_job, items_job, made_of, made_or, molecules_in, seed_in, seeds_in, worker_counts_in, workers_in}
 use Rattle.smol_run.proofs.Items.{items_of-name, items_of-two}
 

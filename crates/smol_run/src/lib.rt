@@ -5,6 +5,7 @@
 mod caller;
 mod ended;
 mod error_lines;
+mod law;
 mod loss;
 mod make;
 #[cfg(test)]
@@ -19,6 +20,7 @@ mod stop;
 mod tests;
 mod words;
 
+pub use law::made_texts_are_accepted;
 pub use make::make_config;
 pub use program::run_program;
 pub use status::Status;
