@@ -1,6 +1,4 @@
 //! The search by boxes finds what the search of all pairs finds.
-ghost use Rattle.smol_pairs.specs.Moved.{AreMoved};
-
 use crate::all_pairs::all_pairs;
 use crate::moved::are_moved;
 use crate::pairs::{DIVIDED, TOGETHER, met};
@@ -9,6 +7,7 @@ use smol_geom::Place;
 use smol_sheets::Panels;
 use smol_types::{Config, Mol};
 use std::alloc::{AllocError, Global};
+use std::process::Abort;
 use std::test::Fail;
 use std::thread::Threads;
 
@@ -77,14 +76,13 @@ const FAR: [Mol; 4] = [
 ];
 
 // How many encounters both searches find, if they find the same.
-fn found_by_both<R: Threads + Sync>(
+fn found_by_both<R: Threads + Sync + Abort>(
     rt: &R,
     alloc: Global,
     config: &Config,
     mols: &[Mol],
-) -> Result<Option<usize>, AllocError>
-    requires { AreMoved config.now mols.now }
-{
+) -> Result<Option<usize>, AllocError> {
+    assert!(rt; are_moved(config, mols));
     let panels = Panels::of(alloc, config)?;
     let by_boxes = met(rt, alloc, config, mols)?;
     let by_pairs = all_pairs(alloc, &panels, mols, 7, 1)?;
@@ -99,7 +97,6 @@ fn found_by_both<R: Threads + Sync>(
 fn a_crowd_is_searched_alike(rt: HostRuntime) -> Result<(), Fail> {
     let alloc = rt.alloc();
     let config = read(alloc, DIVIDED)?;
-    assert!(rt; are_moved(&config, &CROWD));
     assert_eq!(rt; found_by_both(&rt, alloc, &config, &CROWD)?, Some(11));
     Ok(())
 }
@@ -108,7 +105,6 @@ fn a_crowd_is_searched_alike(rt: HostRuntime) -> Result<(), Fail> {
 fn molecules_as_far_apart_as_radii_are_searched_alike(rt: HostRuntime) -> Result<(), Fail> {
     let alloc = rt.alloc();
     let config = read(alloc, DIVIDED)?;
-    assert!(rt; are_moved(&config, &LATTICE));
     assert_eq!(rt; found_by_both(&rt, alloc, &config, &LATTICE)?, Some(31));
     Ok(())
 }
@@ -117,7 +113,6 @@ fn molecules_as_far_apart_as_radii_are_searched_alike(rt: HostRuntime) -> Result
 fn molecules_beyond_walls_are_searched_alike(rt: HostRuntime) -> Result<(), Fail> {
     let alloc = rt.alloc();
     let config = read(alloc, DIVIDED)?;
-    assert!(rt; are_moved(&config, &OUTSIDE));
     assert_eq!(rt; found_by_both(&rt, alloc, &config, &OUTSIDE)?, Some(6));
     Ok(())
 }
@@ -126,7 +121,6 @@ fn molecules_beyond_walls_are_searched_alike(rt: HostRuntime) -> Result<(), Fail
 fn molecules_of_which_one_is_far_away_are_searched_alike(rt: HostRuntime) -> Result<(), Fail> {
     let alloc = rt.alloc();
     let config = read(alloc, DIVIDED)?;
-    assert!(rt; are_moved(&config, &FAR));
     assert_eq!(rt; found_by_both(&rt, alloc, &config, &FAR)?, Some(5));
     Ok(())
 }
@@ -135,7 +129,6 @@ fn molecules_of_which_one_is_far_away_are_searched_alike(rt: HostRuntime) -> Res
 fn molecules_at_one_place_are_searched_alike(rt: HostRuntime) -> Result<(), Fail> {
     let alloc = rt.alloc();
     let config = read(alloc, DIVIDED)?;
-    assert!(rt; are_moved(&config, &TOGETHER));
     assert_eq!(rt; found_by_both(&rt, alloc, &config, &TOGETHER)?, Some(8));
     Ok(())
 }

@@ -28,8 +28,8 @@ fn stands_on(place: &Place, axis: usize) -> bool
     size % 2 == 1 && size <= FARTHEST
 }
 
-// Whether a molecule may stand at a place.
-fn stands(place: &Place) -> bool
+/// Whether a molecule may stand at a place.
+pub fn stands(place: &Place) -> bool
     ensures { result ≡ true → IsPlaceWithin (2 ^ 57) place.now }
 {
     stands_on(place, 0) && stands_on(place, 1) && stands_on(place, 2)

@@ -1,7 +1,4 @@
 //! Which molecules may react with each other.
-ghost use Rattle.std.specs.Prelude.{◌≡◌, length};
-ghost use Rattle.smol_pairs.specs.Moved.{AreMoved};
-
 use crate::moved::{are_moved, free_of};
 use crate::reading::read;
 use smol_geom::Place;
@@ -10,6 +7,7 @@ use smol_plan::Pair;
 use smol_sheets::Panels;
 use smol_types::{Config, Mol};
 use std::alloc::{AllocError, Global};
+use std::process::Abort;
 use std::test::Fail;
 use std::thread::Threads;
 
@@ -71,27 +69,25 @@ fn ranks(rank_a: u32, rank_b: u32, reaction: u16) -> Encounter {
 }
 
 // The candidates of molecules in the first step.
-fn found<R: Threads + Sync>(
+fn found<R: Threads + Sync + Abort>(
     rt: &R,
     alloc: Global,
     config: &Config,
     mols: &[Mol],
-) -> Result<Vec<Pair>, AllocError>
-    requires { AreMoved config.now mols.now }
-{
+) -> Result<Vec<Pair>, AllocError> {
+    assert!(rt; are_moved(config, mols));
     let free = free_of(alloc, config, mols, 7, 1)?;
     candidates(rt, alloc, config, mols, &free, 7, 1)
 }
 
 /// Which molecules may react in the first step.
-pub fn met<R: Threads + Sync>(
+pub fn met<R: Threads + Sync + Abort>(
     rt: &R,
     alloc: Global,
     config: &Config,
     mols: &[Mol],
-) -> Result<Vec<Encounter>, AllocError>
-    requires { AreMoved config.now mols.now }
-{
+) -> Result<Vec<Encounter>, AllocError> {
+    assert!(rt; are_moved(config, mols));
     let free = free_of(alloc, config, mols, 7, 1)?;
     let panels = Panels::of(alloc, config)?;
     let reaches = Reaches::of(alloc, config)?;
@@ -102,7 +98,6 @@ pub fn met<R: Threads + Sync>(
 fn molecules_at_one_place_make_all_pairs(rt: HostRuntime) -> Result<(), Fail> {
     let alloc = rt.alloc();
     let config = read(alloc, DIVIDED)?;
-    assert!(rt; are_moved(&config, &TOGETHER));
     let pairs = found(&rt, alloc, &config, &TOGETHER)?;
     let want = [
         pair(1, 2, 0),
@@ -122,7 +117,6 @@ fn molecules_at_one_place_make_all_pairs(rt: HostRuntime) -> Result<(), Fail> {
 fn molecules_as_far_apart_as_a_radius_may_react(rt: HostRuntime) -> Result<(), Fail> {
     let alloc = rt.alloc();
     let config = read(alloc, DIVIDED)?;
-    assert!(rt; are_moved(&config, &APART));
     let pairs = found(&rt, alloc, &config, &APART)?;
     let want = [
         pair(1, 2, 1),
@@ -146,7 +140,6 @@ fn molecules_as_far_apart_as_a_radius_may_react(rt: HostRuntime) -> Result<(), F
 fn encounters_have_the_ranks_of_their_molecules(rt: HostRuntime) -> Result<(), Fail> {
     let alloc = rt.alloc();
     let config = read(alloc, DIVIDED)?;
-    assert!(rt; are_moved(&config, &TOGETHER));
     let encounters = met(&rt, alloc, &config, &TOGETHER)?;
     let want = [
         ranks(0, 1, 0),
