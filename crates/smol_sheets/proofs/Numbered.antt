@@ -40,6 +40,12 @@ sheets_are draft =
     ∙ (λ i. numbered_sheets (panel_plate draft) panel_sheet (λ entry. refl) 0 draft.panels i
     ++ numbered_sheets (wall_plate draft) wall_sheet (λ entry. refl) (length draft.panels) draft.walls i)
 
+-- and so they are where the panels and walls are known to be the draft's
+pub all_sheets_are : (draft : Draft) (panels : List Panel) (walls : List Wall) → panels ≡ draft.panels → walls ≡ draft.walls
+    → map panel_sheet panels ++ map wall_sheet walls ≡ sheets_of draft
+all_sheets_are draft panels walls are walls_are =
+    (λ i. map panel_sheet (are i) ++ map wall_sheet (walls_are i)) ∙ sym (sheets_are draft)
+
 pub sheet_count : (draft : Draft) → length (sheets_of draft) ≡ length draft.panels + length draft.walls
 sheet_count draft =
     ap length (sheets_are draft) ∙ length-append (map panel_sheet draft.panels) (map wall_sheet draft.walls)

@@ -7,4 +7,4 @@ mod panels;
 mod sheet;
 
 pub use panels::Panels;
-pub use sheet::{across, line_meets};
+pub use sheet::{Stand, across, line_meets};

@@ -1,8 +1,11 @@
-ghost use Rattle.std.specs.Prelude.{◌≡◌, ◌++◌, IfOk, map};
+ghost use Rattle.std.specs.Prelude.{◌≡◌, ◌++◌, All, IfOk, map};
 ghost use Rattle.smol_types.specs.declared.surface.Panel.{Panel};
 ghost use Rattle.smol_types.specs.declared.wall.Wall.{Wall};
 ghost use Rattle.smol_meaning.specs.declared.sheet.Sheet.TheVariants.{Plane, Rectangle};
+ghost use Rattle.smol_meaning.specs.Folds.{IsSheet};
+ghost use Rattle.smol_sheets.specs.Sheets.{stand_of};
 
+use crate::sheet::{Stand, stand_of};
 use smol_meaning::Sheet;
 use smol_types::{Config, Panel, Wall};
 use std::alloc::{AllocError, Global};
@@ -12,35 +15,43 @@ use std::marker::Model;
 #[derive(Drop)]
 pub struct Panels<'a> {
     config: &'a Config,
-    // Where panels and walls stand, in the order of their numbers. A molecule that meets nothing looks at these alone.
+    // Where panels and walls are, in the order of their numbers.
     sheets: Vec<Sheet>,
+    // The axis and the plane of each, in the same order. A molecule that meets nothing looks at these alone.
+    stands: Vec<Stand>,
 }
 
 impl<'a> Model for Panels<'a> {
-    ghost use Rattle.std.specs.Prelude.{◌≡◌};
+    ghost use Rattle.std.specs.Prelude.{◌≡◌, map};
     ghost use Rattle.smol_types.specs.declared.draft.Draft.{Draft};
     ghost use Rattle.smol_types.specs.Sound.{IsSound};
-    ghost use Rattle.smol_sheets.specs.Sheets.{sheets_of};
+    ghost use Rattle.smol_sheets.specs.Sheets.{sheets_of, stand_of};
 
     ghost Value = { Draft };
 
     ghost view = { λ panels. panels.config.now };
 
-    ghost invariant = { λ panels. IsSound panels.config.now × (panels.sheets.items ≡ sheets_of panels.config.now) };
+    ghost invariant = { λ panels. IsSound panels.config.now × (panels.sheets.items ≡ sheets_of panels.config.now)
+        × (panels.stands.items ≡ map stand_of (sheets_of panels.config.now)) };
 }
 
 impl<'a> Panels<'a> {
-    ghost use Rattle.std.specs.Prelude.{◌≡◌, ◌+◌, All, IfOk, length};
+    ghost use Rattle.std.specs.Prelude.{◌≡◌, ◌+◌, All, IfOk, length, map};
     ghost use Rattle.smol_types.specs.Sound.{IsSound};
     ghost use Rattle.smol_meaning.specs.Folds.{IsSheet};
-    ghost use Rattle.smol_sheets.specs.Sheets.{sheets_of};
+    ghost use Rattle.smol_sheets.specs.Sheets.{sheets_of, stand_of};
 
     /// The panels and walls of a configuration.
     pub fn of(alloc: Global, config: &'a Config) -> Result<Panels<'a>, AllocError>
         ensures { IfOk result (λ panels. panels ≡ config.now) }
     {
         let sheets = all_sheets(alloc, config.panels(), config.walls())?;
-        Ok(Panels { config, sheets })
+        let stands = all_stands(alloc, sheets.as_slice())?;
+        Ok(Panels {
+            config,
+            sheets,
+            stands,
+        })
     }
 
     /// The configuration.
@@ -60,6 +71,13 @@ impl<'a> Panels<'a> {
     {
         self.sheets.as_slice()
     }
+
+    /// The axis and the plane of each panel and wall, in the order of their numbers.
+    pub fn stands(&self) -> &[Stand]
+        ensures { result.now ≡ map stand_of (sheets_of self.now) }
+    {
+        self.stands.as_slice()
+    }
 }
 
 // Where panels stand, and behind them where walls do.
@@ -75,4 +93,12 @@ fn all_sheets(alloc: Global, panels: &[Panel], walls: &[Wall]) -> Result<Vec<She
         plane: wall.plane,
     });
     rectangles.chain(planes).collect(alloc)
+}
+
+// The axis and the plane of each.
+fn all_stands(alloc: Global, sheets: &[Sheet]) -> Result<Vec<Stand>, AllocError>
+    requires { All IsSheet sheets.now }
+    ensures { IfOk result (λ stands. stands.items ≡ map stand_of sheets.now) }
+{
+    sheets.iter().map(stand_of).collect(alloc)
 }

@@ -6,9 +6,18 @@ ghost use Rattle.smol_meaning.specs.Folds.{IsSheet};
 ghost use Rattle.smol_meaning.specs.Plates.{sheet_axis, sheet_plane};
 ghost use Rattle.smol_meaning.specs.Sight.{line_meets};
 ghost use Rattle.smol_meaning.specs.Sighted.{IsPlaceWithin};
+ghost use Rattle.smol_sheets.specs.Sheets.{stand_of};
 
 use smol_geom::Place;
 use smol_meaning::{Sheet, meets_panel, meets_wall};
+
+/// The axis that a panel or a wall lies across, and its one coordinate there, in ticks. Of most panels and walls a molecule that
+/// moves looks at no more.
+#[derive(Clone, Copy)]
+pub struct Stand {
+    pub axis: u8,
+    pub plane: i64,
+}
 
 /// The axis that a panel or a wall lies across, and its one coordinate there, in ticks.
 pub fn across(sheet: &Sheet) -> (u8, i64)
@@ -23,6 +32,15 @@ pub fn across(sheet: &Sheet) -> (u8, i64)
         Sheet::Rectangle { rect } => (rect.axis, rect.low[rect.axis as usize]),
         Sheet::Plane { axis, plane } => (*axis, *plane),
     }
+}
+
+// Across which axis a panel or a wall stands, and where.
+pub(crate) fn stand_of(sheet: &Sheet) -> Stand
+    requires { IsSheet sheet.now }
+    ensures { result ≡ stand_of sheet.now }
+{
+    let (axis, plane) = across(sheet);
+    Stand { axis, plane }
 }
 
 /// Whether the straight line between two places meets a panel or a wall.
