@@ -1,14 +1,24 @@
 -- The scan of the panels and walls for the next meeting.
 use Rattle.std.proofs.Common.{◌≡◌, ℕ, ◌+◌, ◌<◌, true, false, List, length, get_or, take, Option, Some, None, sym, ◌∙◌, ap, subst, arith}
+use Rattle.std.specs.Prelude.{map}
+use Rattle.std.proofs.lemmas.List.{length-map}
 use Rattle.std.proofs.lemmas.Bool.{cond_both, both_ways, false_from_ne_true}
 use Rattle.std.proofs.lemmas.List.Elements.{All-more}
 use Rattle.smol_geom.specs.declared.moment.Moment.{Moment}
 use Rattle.smol_geom.specs.Moments.{is_before}
 use Rattle.smol_geom.proofs.Order.{before_trans, not_before_itself}
+use Rattle.smol_types.specs.declared.draft.Draft.{Draft}
 use Rattle.smol_meaning.specs.declared.sheet.Sheet.{Sheet}
+use Rattle.smol_sheets.specs.declared.sheet.Stand.{Stand}
+use Rattle.smol_sheets.specs.Sheets.{sheets_of, stand_of}
 use Rattle.smol_travel.specs.Legs.{meets}
 use Rattle.smol_travel.specs.Meetings.{NoneMet, ComesLater, NothingBefore, IsNext, sooner_of}
 use Rattle.smol_travel.specs.declared.leg.Leg.{Leg}
+
+-- there are as many stands as sheets
+pub as_many : (draft : Draft) (sheets : List Sheet) (stands : List Stand) → sheets ≡ sheets_of draft → stands ≡ map stand_of (sheets_of draft)
+    → length stands ≡ length sheets
+as_many draft sheets stands are stand = ap length stand ∙ length-map (sheets_of draft) stand_of ∙ ap length (sym are)
 
 -- a sheet more
 module _ (sheets : List Sheet) (leg : Leg) (last : Moment) (i : ℕ) (d sheet : Sheet) (l : i < length sheets) (at : get_or sheets i d ≡ sheet) where

@@ -6,7 +6,7 @@ ghost use Rattle.smol_geom.specs.Moments.{IsMoment, is_before};
 ghost use Rattle.smol_types.specs.Sound.{IsSound};
 ghost use Rattle.smol_meaning.specs.Folds.{IsSheet};
 ghost use Rattle.smol_meaning.specs.Plates.{sheet_axis, sheet_plane};
-ghost use Rattle.smol_sheets.specs.Sheets.{sheets_of};
+ghost use Rattle.smol_sheets.specs.Sheets.{sheets_of, stand_of};
 ghost use Rattle.smol_travel.specs.Legs.{IsBetween, IsLeg, IsSpan, meets, plane_on};
 ghost use Rattle.smol_travel.specs.Meetings.{ComesLater, IsNext, sooner_of};
 
@@ -14,7 +14,7 @@ use crate::coordinates::{ticks_to, unfolded};
 use crate::leg::{Leg, Span, is_still, span_of};
 use smol_geom::{Moment, holds_at, moment_before};
 use smol_meaning::Sheet;
-use smol_sheets::{Panels, across};
+use smol_sheets::{Panels, Stand, across};
 
 // The first moment after the last one at which a panel or a wall is met, where there is one.
 pub fn next_meeting(panels: &Panels, leg: &Leg, last: &Moment) -> Option<Moment>
@@ -29,8 +29,8 @@ pub fn next_meeting(panels: &Panels, leg: &Leg, last: &Moment) -> Option<Moment>
     }
     let span = span_of(leg);
     let mut next: Option<Moment> = None;
-    for sheet in sheets {
-        if let Some(met) = meeting_in_span(sheet, &span, leg, last) {
+    for (number, stand) in panels.stands().iter().enumerate() {
+        if let Some(met) = meeting_in_span(stand, &sheets[number], &span, leg, last) {
             next = Some(earlier(next, met));
         }
     }
@@ -60,16 +60,22 @@ fn comes_before(a: &Moment, b: &Moment) -> bool
     moment_before(a, b)
 }
 
-// The meeting with a panel or a wall, where it is within the span. One outside isn't met.
-fn meeting_in_span(sheet: &Sheet, span: &Span, leg: &Leg, last: &Moment) -> Option<Moment>
+// The meeting with a panel or a wall, where it stands within the span. One outside isn't met, nor looked at further.
+fn meeting_in_span(
+    stand: &Stand,
+    sheet: &Sheet,
+    span: &Span,
+    leg: &Leg,
+    last: &Moment,
+) -> Option<Moment>
+    requires stand { stand.now ≡ stand_of sheet.now }
     requires sheet { IsSheet sheet.now }
     requires span { IsSpan leg.now span.now.low span.now.high }
     requires leg { IsLeg leg.now }
     ensures later { IfSome result (λ m. ComesLater leg.now last.now m) }
     ensures only { (m : Moment) → ComesLater leg.now last.now m → meets leg.now m sheet.now ≡ true → result ≡ Some m }
 {
-    let (axis, plane) = across(sheet);
-    if is_in_span(span, axis, plane) {
+    if is_in_span(span, stand) {
         meeting(sheet, leg, last)
     } else {
         None
@@ -77,13 +83,13 @@ fn meeting_in_span(sheet: &Sheet, span: &Span, leg: &Leg, last: &Moment) -> Opti
 }
 
 // Whether a plane across an axis is within the span.
-fn is_in_span(span: &Span, axis: u8, plane: i64) -> bool
-    requires { axis < 3 }
-    ensures { IsTrue result ↔ IsBetween (on_axis span.now.low axis) (on_axis span.now.high axis) plane }
+fn is_in_span(span: &Span, stand: &Stand) -> bool
+    requires { stand.now.axis < 3 }
+    ensures { IsTrue result ↔ IsBetween (on_axis span.now.low stand.now.axis) (on_axis span.now.high stand.now.axis) stand.now.plane }
 {
-    let low = span.low[axis as usize];
-    let high = span.high[axis as usize];
-    low < plane && plane < high
+    let low = span.low[stand.axis as usize];
+    let high = span.high[stand.axis as usize];
+    low < stand.plane && stand.plane < high
 }
 
 // The one moment after the last one at which the panel or wall is met, as long as the fold stays.
