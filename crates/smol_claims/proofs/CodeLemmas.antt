@@ -6,7 +6,7 @@ use Rattle.smol_plan.specs.declared.pair.Pair.{Pair}
 use Rattle.smol_plan.specs.declared.pair.Side.TheVariants.{Low, High}
 use Rattle.smol_plan.specs.declared.decision.Decision.{Decision}
 use Rattle.smol_plan.specs.Matching.{fires}
-use Rattle.smol_plan.specs.Standing.{fired_of}
+use Rattle.smol_plan.specs.PairState.{fired_of}
 use Rattle.smol_plan.specs.Pair.{molecule_at}
 use Rattle.smol_plan.specs.Links.{is_taken_before}
 use Rattle.smol_plan.specs.Decision.{decision_after, TellsTaken}

@@ -11,7 +11,7 @@ use Rattle.smol_plan.specs.declared.event.Event.TheVariants.{Decide}
 use Rattle.smol_plan.specs.Matching.{fires}
 use Rattle.smol_plan.specs.Links.{source_of, comes_from, is_number, any_below}
 use Rattle.smol_plan.specs.Machine.{State, slice_count, left_of, is_beaten, after_decide}
-use Rattle.smol_plan.specs.Standing.{fired_of}
+use Rattle.smol_plan.specs.PairState.{fired_of}
 use Rattle.smol_plan.specs.Good.{Good, IsHeldWell}
 use Rattle.smol_plan.proofs.BelowLemmas.{any_below_same, any_below_from}
 use Rattle.smol_plan.proofs.GoodLemmas.{AllTold-from_left, is_beaten-fires}

@@ -66,11 +66,6 @@ hand_decided v w rest x h d = subst (λ u. IsInHand u rest) (sym d.view) record 
     inside : (j : ℕ) → length v.pairs ≤ j → times rest j + times (x ∷ v.mine) j ≡ 0
     inside j l = omega (arith, h.inside j l, shares j)
 
--- a link is told that was not the last of its pair
-pub hand_told : (v w : View) (l : Link) (stack : List ℕ) → IsInHand v stack → w ≡ view_telling v l false → IsInHand w stack
-hand_told v w l stack h e =
-    subst (λ u. IsInHand u stack) (sym e) record { same = h.same; once = h.once; inside = h.inside }
-
 -- a link is told that was, and the pair goes on the stack
 pub hand_received : (v w : View) (l : Link) (stack : List ℕ) → IsInHand v stack → w ≡ view_telling v l true → IsNew v l.pair → l.pair < length v.pairs → IsInHand w (stack ++ l.pair ∷ [])
 hand_received v w l stack h e new below =
@@ -110,15 +105,6 @@ hand_received v w l stack h e new below =
         let s : times (stack ++ l.pair ∷ []) j ≡ times stack j + (0 + 0) = rw (ne_eqb j l.pair n) at (shares j) in
         omega (arith, h.inside j beyond, s)
 
--- a worker that is done has nothing in hand
-pub hand_done : (v : View) (stack : List ℕ) → IsDone v stack → IsInHand v stack
-hand_done v stack d =
-    record {
-      same = λ j. ap (λ l. has l j) (d.held ∙ sym d.empty);
-      once = λ j. omega (arith, d.once j, ap (λ l. times l j) d.empty);
-      inside = λ j l. omega (arith, d.inside j l, ap (λ l. times l j) d.empty);
-    }
-
 -- it is done where its stack is empty and it owes nothing
 pub done_hand : (v : View) (stack : List ℕ) → IsInHand v stack → stack ≡ [] → v.owed ≡ [] → IsDone v stack
 done_hand v stack h empty owed =
@@ -129,11 +115,6 @@ done_hand v stack h empty owed =
       once = λ j. omega (arith, h.once j);
       inside = λ j l. omega (arith, h.inside j l);
     }
-
--- a slice is taken that was taken before
-pub done_taking : (v w : View) (slice : ℕ) (stack : List ℕ) → IsDone v stack → w ≡ view_taking v slice false → IsDone w stack
-done_taking v w slice stack d e =
-    subst (λ u. IsDone u stack) (sym e) record { held = d.held; owed = d.owed; empty = d.empty; once = d.once; inside = d.inside }
 
 -- a slice is taken that was not, and its pairs without a link go on the stack
 pub hand_taking : (v w : View) (slice : ℕ) (old stack : List ℕ) → IsDone v old → w ≡ view_taking v slice true → ((j : ℕ) → has stack j ≡ has (free_pairs v.pairs slice) j) → ((j : ℕ) → times stack j ≤ 1) → ((j : ℕ) → has (free_pairs v.pairs slice) j ≡ true → IsNew v j) → IsInHand w stack

@@ -1,7 +1,7 @@
 -- Lists of pairs and of links: what is in them, and how often.
 use Rattle.std.proofs.Common.{◌≡◌, ℕ, zero, suc, ◌+◌, ◌<◌, ◌≤◌, Bool, true, false, not, ◌&&◌, ◌||◌, ◌==◌, nat_lt, eqb, List, [], ◌∷◌, ◌++◌, length, refl, sym, ◌∙◌, ap, ⊎_elim, arith, if◌then◌else◌}
 use Rattle.std.specs.List.{IsDistinct, AllByRecursion, list_any}
-use Rattle.std.proofs.lemmas.Bool.{cases_eq, cases_Bool, cases_lt, lt-ltb, le-ltb, eq-eqb, ne_eqb, eqb-true, and_parts, and_from, or_left, or_right, or_cases, or_parts, false≢true, both_ways}
+use Rattle.std.proofs.lemmas.Bool.{cases_eq, cases_lt, lt-ltb, le-ltb, eq-eqb, ne_eqb, eqb-true, and_parts, and_from, or_left, or_right, or_cases, or_parts, false≢true, both_ways}
 use Rattle.std.proofs.lemmas.Map.Steps.{length-le_from_distinct_below}
 use Rattle.smol_plan.specs.declared.pair.Pair.{Pair}
 use Rattle.smol_plan.specs.declared.pair.Side.{Side}
@@ -183,12 +183,6 @@ has-times (x ∷ xs) j e = ⊎_elim
     (λ (h : (j == x) ≡ true). rw h (omega arith))
     (λ (h : has xs j ≡ true). omega (arith, has-times xs j h))
     (or_cases _ _ e)
-
-pub has-from_times : (xs : List ℕ) (j : ℕ) → 1 ≤ times xs j → has xs j ≡ true
-has-from_times xs j l = ⊎_elim
-    (λ (h : has xs j ≡ true). h)
-    (λ (h : has xs j ≡ false). absurd (omega (arith, times-none xs j h)))
-    (cases_Bool (has xs j))
 
 all_other : (x : ℕ) (xs : List ℕ) → times xs x ≡ 0 → AllByRecursion (λ y. eqb x y ≡ false) xs
 all_other x [] e = tt

@@ -9,7 +9,7 @@ use Rattle.smol_plan.specs.declared.pair.Pair.{Pair}
 use Rattle.smol_plan.specs.declared.pair.Side.{Side}
 use Rattle.smol_plan.specs.Links.{source_of}
 use Rattle.smol_plan.specs.Machine.{State, first_state, slice_count, left_of}
-use Rattle.smol_plan.specs.Standing.{fired_of}
+use Rattle.smol_plan.specs.PairState.{fired_of}
 use Rattle.smol_plan.specs.Good.{Good}
 use Rattle.smol_plan.proofs.GoodKept.{Good-first}
 use Rattle.smol_plan.proofs.StateLemmas.{State-same}

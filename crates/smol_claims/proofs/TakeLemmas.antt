@@ -10,7 +10,7 @@ use Rattle.smol_plan.specs.declared.pair.Side.{Side}
 use Rattle.smol_plan.specs.declared.event.Event.TheVariants.{Take}
 use Rattle.smol_plan.specs.Links.{source_of}
 use Rattle.smol_plan.specs.Machine.{State, slice_count, slice_of, has_no_link, left_of, after_take}
-use Rattle.smol_plan.specs.Standing.{fired_of}
+use Rattle.smol_plan.specs.PairState.{fired_of}
 use Rattle.smol_plan.specs.Good.{Good}
 use Rattle.smol_plan.proofs.GoodKept.{Good-effect}
 use Rattle.smol_plan.proofs.StateLemmas.{State-same}

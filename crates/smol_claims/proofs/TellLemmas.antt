@@ -12,7 +12,7 @@ use Rattle.smol_plan.specs.declared.event.Event.TheVariants.{Tell}
 use Rattle.smol_plan.specs.Pair.{is_side}
 use Rattle.smol_plan.specs.Links.{source_of, is_link, any_below}
 use Rattle.smol_plan.specs.Machine.{State, slice_count, left_of, with_told, after_tell}
-use Rattle.smol_plan.specs.Standing.{fired_of}
+use Rattle.smol_plan.specs.PairState.{fired_of}
 use Rattle.smol_plan.specs.Good.{Good, IsOwed, HasDecidedSource}
 use Rattle.smol_plan.proofs.BelowLemmas.{any_below_same, any_below_gap}
 use Rattle.smol_plan.proofs.SideLemmas.{is_side-refl, is_side-true}

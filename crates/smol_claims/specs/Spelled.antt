@@ -5,7 +5,7 @@ use Rattle.smol_plan.specs.declared.pair.Pair.{Pair}
 use Rattle.smol_plan.specs.declared.pair.Side.{Side}
 use Rattle.smol_plan.specs.Links.{source_of, any_below}
 use Rattle.smol_plan.specs.Machine.{State, slice_count}
-use Rattle.smol_plan.specs.Standing.{fired_of}
+use Rattle.smol_plan.specs.PairState.{fired_of}
 use Rattle.smol_claims.specs.declared.view.View.{View}
 use Rattle.smol_claims.specs.View.{has, has_link, view_at}
 use Rattle.smol_claims.specs.Layout.{slice_at, decision_at}

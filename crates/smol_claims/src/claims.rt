@@ -1,6 +1,6 @@
 //! The words of a matching.
 use crate::rule::Claiming;
-use crate::setup::Setup;
+use crate::terms::Terms;
 use crate::view::View;
 use atomic_table::Table;
 use std::alloc::Global;
@@ -9,8 +9,8 @@ use std::marker::Model;
 /// The words of a matching, over its plan. Workers share it, and their steps change it.
 #[derive(Drop)]
 pub struct Claims {
-    pub(crate) setup: Setup,
-    pub(crate) table: Table<(), View, Setup, Claiming, Global>,
+    pub(crate) terms: Terms,
+    pub(crate) table: Table<(), View, Terms, Claiming, Global>,
     pub(crate) answer: Vec<bool>,
 }
 

@@ -47,12 +47,12 @@ impl Claims {
     {
         let seat = self.join_all(workers);
         let Claims {
-            setup,
+            terms,
             table,
             answer,
         } = self;
         let closed = table.close_with(seat);
-        let answer = read_answer(&setup.plan, &closed, answer);
+        let answer = read_answer(&terms.plan, &closed, answer);
         closed.free();
         answer
     }

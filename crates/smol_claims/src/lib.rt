@@ -15,8 +15,8 @@ mod open;
 mod plays;
 mod rule;
 mod settle;
-mod setup;
 mod steps;
+mod terms;
 #[cfg(test)]
 mod tests;
 mod view;
@@ -27,6 +27,6 @@ pub use claims::Claims;
 pub use law::each_step_is_an_event;
 pub use matching::match_pairs;
 pub use rule::Claiming;
-pub use setup::Setup;
+pub use terms::Terms;
 pub use view::{Link, Look, View};
 pub use worker::Worker;

@@ -6,7 +6,7 @@ ghost use Rattle.smol_claims.specs.Hand.{IsNewFor};
 use crate::claims::Claims;
 use crate::fresh::fresh_words;
 use crate::plays::Splitting;
-use crate::setup::Setup;
+use crate::terms::Terms;
 use crate::view::View;
 use crate::worker::Worker;
 use atomic_table::{Seat, Table};
@@ -30,10 +30,10 @@ impl Claims {
         let words = fresh_words(alloc, &plan)?;
         let answer = vec![in alloc; false; plan.len()]?;
         let _ordered = plan.pairs();
-        let setup = Setup { plan, workers };
-        let (table, seat) = Table::of_words(alloc, &words, &setup)?;
+        let terms = Terms { plan, workers };
+        let (table, seat) = Table::of_words(alloc, &words, &terms)?;
         let claims = Claims {
-            setup,
+            terms,
             table,
             answer,
         };
@@ -50,7 +50,7 @@ impl Claims {
         ensures new { IfOk result (λ workers. All (IsNewFor self.now) workers.items) }
     {
         let mut workers = Vec::with_capacity(alloc, 16)?;
-        for _ in 1..self.setup.workers {
+        for _ in 1..self.terms.workers {
             let new = self.split(&mut seat);
             workers.push(self.hire(alloc, new)?)?;
         }
@@ -79,7 +79,7 @@ impl Claims {
         requires slots { seat.me.1 ≡ [] }
         ensures new { IfOk result (IsNewFor self.now) }
     {
-        let stack = Vec::with_capacity(alloc, self.setup.plan.len())?;
+        let stack = Vec::with_capacity(alloc, self.terms.plan.len())?;
         Ok(Worker { seat, stack })
     }
 }

@@ -2,15 +2,15 @@
 ghost use Rattle.smol_claims.specs.Rule.{KeepsRule};
 ghost use Rattle.smol_claims.specs.View.{newcomer};
 
-use crate::setup::Setup;
+use crate::terms::Terms;
 use crate::view::View;
 use atomic_table::TableRule;
 
 /// The rule of a matching.
 pub struct Claiming;
 
-impl TableRule<(), View, Setup> for Claiming {
-    ghost holds = { λ setup s. KeepsRule setup.plan setup.workers s };
+impl TableRule<(), View, Terms> for Claiming {
+    ghost holds = { λ terms s. KeepsRule terms.plan terms.workers s };
 
-    ghost first = { λ setup. newcomer setup.plan setup.workers setup.workers };
+    ghost first = { λ terms. newcomer terms.plan terms.workers terms.workers };
 }

@@ -23,7 +23,7 @@ impl Claims {
         ensures looks { OnlyLooks seat.old.me.0 seat.new.me.0 }
         ensures taken { result ≡ is_taken_before self.now.pairs (molecule_at self.now.pairs pair side) pair }
     {
-        let plan = &self.setup.plan;
+        let plan = &self.terms.plan;
         let Some(source) = plan.before(pair, side) else {
             return false;
         };
@@ -67,7 +67,7 @@ impl Claims {
         // The two molecules of a pair differ, so that no link comes by both.
         ensures ordered { IsOrdered self.now.pairs }
     {
-        if let Some((next, next_side)) = self.setup.plan.after(pair, side) {
+        if let Some((next, next_side)) = self.terms.plan.after(pair, side) {
             if self.tell(seat, next, next_side) {
                 stack.push_reserved(next);
             }

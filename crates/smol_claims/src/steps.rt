@@ -21,7 +21,7 @@ impl Claims {
         ensures value { result ≡ counter_at self.now.pairs pair }
         ensures inside { result < claim_word_count self.now.pairs }
     {
-        1 + self.setup.plan.slices() + pair
+        1 + self.terms.plan.slices() + pair
     }
 
     // The place of the decision of a pair.
@@ -30,7 +30,7 @@ impl Claims {
         ensures value { result ≡ decision_at self.now.pairs pair }
         ensures inside { result < claim_word_count self.now.pairs }
     {
-        1 + self.setup.plan.slices() + self.setup.plan.len() + pair
+        1 + self.terms.plan.slices() + self.terms.plan.len() + pair
     }
 
     /// Takes a slice, and says whether it was not taken before.

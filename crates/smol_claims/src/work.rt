@@ -54,7 +54,7 @@ impl Claims {
     {
         for _ in 0..MOST_QUESTIONS {
             match gate.ask(slice) {
-                Some(pair) if pair < self.setup.plan.len() => {
+                Some(pair) if pair < self.terms.plan.len() => {
                     let fired = self.see(seat, pair);
                     gate.saw(slice, pair, fired);
                 }
@@ -84,7 +84,7 @@ impl Claims {
         ensures seen_it { slice ≤ seat.old.me.0.seen → slice + 1 ≤ seat.new.me.0.seen }
     {
         if self.take(seat, slice) {
-            stack_free(&self.setup.plan, stack, slice);
+            stack_free(&self.terms.plan, stack, slice);
             self.question(gate, seat, slice);
             self.settle_all(seat, stack);
         }

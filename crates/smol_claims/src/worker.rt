@@ -40,7 +40,7 @@ impl Worker {
         ensures seen { self.new.view.seen ≡ slice_count claims.now.pairs }
         ensures goes_on { GoesOn self.old.view self.new.view }
     {
-        for slice in 0..claims.setup.plan.slices() {
+        for slice in 0..claims.terms.plan.slices() {
             claims.work_on(gate, &mut self.seat, &mut self.stack, slice);
         }
     }

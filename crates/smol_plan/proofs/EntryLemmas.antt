@@ -1,38 +1,40 @@
 -- The entries of a list of pairs, two for each, and their order.
-use Rattle.std.proofs.Common.{◌≡◌, ℕ, zero, suc, ◌+◌, ◌<◌, ◌≤◌, Bool, true, false, ◌&&◌, ◌==◌, List, [], ◌∷◌, length, get_or, Ordering, ◌⊎◌, refl, sym, ◌∙◌, ap, inl, inr, ⊎_elim, arith, if◌then◌else◌, add-zero, add-one}
+use Rattle.std.proofs.Common.{◌≡◌, ℕ, zero, suc, ◌+◌, ◌<◌, ◌≤◌, ◌/◌, Bool, true, false, ◌&&◌, ◌==◌, List, [], ◌∷◌, length, map, get_or, ◌⊎◌, refl, sym, ◌∙◌, ap, inl, inr, ⊎_elim, arith, if◌then◌else◌, add-zero, add-one}
 use Rattle.std.specs.List.{sum_by}
 use Rattle.std.specs.List.Sorted.{IsPermutation}
-use Rattle.std.specs.Ordering.{is_lt, nat_cmp, ordering_then}
-use Rattle.std.proofs.lemmas.Bool.{cases_eq, cases_order, cases_lt, lt-ltb, le-ltb, eq-eqb, eqb-true, ne_eqb, and_parts, false≢true}
+use Rattle.std.specs.Ordering.{is_lt, nat_cmp}
+use Rattle.std.proofs.lemmas.Bool.{cases_eq, cases_lt, lt-ltb, eq-eqb, eqb-true, ne_eqb, and_parts, false≢true}
 use Rattle.std.proofs.lemmas.Grind.{get_or_moved}
+use Rattle.std.proofs.lemmas.List.{get_or-map, length-map}
 use Rattle.std.proofs.lemmas.List.Sums.{sum_by-cons}
 use Rattle.std.proofs.lemmas.List.Sorted.{sum_by-IsPermutation}
 use Rattle.smol_plan.specs.declared.pair.Pair.{Pair}
 use Rattle.smol_plan.specs.declared.pair.Side.{Side}
 use Rattle.smol_plan.specs.declared.pair.Side.TheVariants.{Low, High}
-use Rattle.smol_plan.specs.declared.plan.Entry.{Entry}
+use Rattle.smol_plan.specs.declared.entries.Entry.{Entry}
 use Rattle.smol_plan.specs.Pair.{is_side, pair_at, molecule_of, molecule_at}
-use Rattle.smol_plan.specs.Linked.{entry_at, entries_from, IsNoLater, IsRising, IsOf}
+use Rattle.smol_plan.specs.Entries.{entry_at, entries_from, entry_of, IsNoLater, IsRising}
+use Rattle.smol_plan.specs.Linked.{IsOf}
 use Rattle.smol_plan.proofs.SideLemmas.{is_side-true, is_side-refl}
 
--- what an order by molecule, then by pair, then by something else says of two entries that are not the wrong way round
-no_later_from : (a b p q : ℕ) (o : Ordering) → is_lt (ordering_then (nat_cmp b a) (ordering_then (nat_cmp q p) o)) ≡ false → (a < b) ⊎ ((a ≡ b) × (p ≤ q))
-no_later_from a b p q o e = ⊎_elim
-    (λ (same : a ≡ b). ⊎_elim (λ (less : q < p). absurd (wrong_pair same less)) (λ (more : p ≤ q). inr (same, more)) (cases_lt q p))
-    (λ h. ⊎_elim (λ (less : a < b). inl less) (λ (more : b < a). absurd (wrong_molecule more)) h)
-    (cases_order a b)
+-- of two numbers the greater one has no earlier entry
+no_later_of : (x y : ℕ) → x ≤ y → IsNoLater (entry_of x) (entry_of y)
+no_later_of x y most = ⊎_elim
+    (λ (less : x / 18446744073709551616 < y / 18446744073709551616). inl less)
+    (λ (more : y / 18446744073709551616 ≤ x / 18446744073709551616).
+    let same : x / 18446744073709551616 ≡ y / 18446744073709551616 = omega (arith, most, more) in
+    inr (same, omega (arith, most, same)))
+    (cases_lt (x / 18446744073709551616) (y / 18446744073709551616))
+
+-- a sort of numbers leaves rising entries
+pub IsRising-from_sorted : (numbers : List ℕ) → ((k : ℕ) (d : ℕ) → 0 ≤ k → k + 1 < length numbers → is_lt (nat_cmp (get_or numbers (k + 1) d) (get_or numbers k d)) ≡ false) → IsRising (map entry_of numbers)
+IsRising-from_sorted numbers sorted k within =
+    let inside : k + 1 < length numbers = omega (arith, within, length-map numbers entry_of) in
+    let most : get_or numbers k 0 ≤ get_or numbers (k + 1) 0 = no_less (sorted k 0 (omega arith) inside) in
+    rw (get_or-map entry_of numbers k 0 _ (omega (arith, inside)), get_or-map entry_of numbers (k + 1) 0 _ inside) (no_later_of (get_or numbers k 0) (get_or numbers (k + 1) 0) most)
   where
-    wrong_molecule : b < a → ⊥
-    wrong_molecule h = false≢true (sym (rw (lt-ltb b a h) at e))
-
-    wrong_pair : a ≡ b → q < p → ⊥
-    wrong_pair same h =
-        let level : b ≤ a = omega arith in
-        false≢true (sym (rw (le-ltb b a (omega arith), eq-eqb b a (sym same), lt-ltb q p h) at e))
-
--- a sort by such an order leaves rising entries
-pub IsRising-from_sorted : (by : Side → Side → Ordering) (entries : List Entry) → ((k : ℕ) (d : Entry) → 0 ≤ k → k + 1 < length entries → is_lt (ordering_then (nat_cmp (get_or entries (k + 1) d).molecule (get_or entries k d).molecule) (ordering_then (nat_cmp (get_or entries (k + 1) d).pair (get_or entries k d).pair) (by (get_or entries (k + 1) d).side (get_or entries k d).side))) ≡ false) → IsRising entries
-IsRising-from_sorted by entries h k l = no_later_from _ _ _ _ _ (h k _ (omega arith) l)
+    no_less : {a b : ℕ} → is_lt (nat_cmp b a) ≡ false → a ≤ b
+    no_less {a} {b} is = ⊎_elim (λ (less : b < a). absurd (false≢true (sym (rw (lt-ltb b a less) at is)))) (λ (more : a ≤ b). more) (cases_lt b a)
 
 IsNoLater-trans : (x y z : Entry) → IsNoLater x y → IsNoLater y z → IsNoLater x z
 IsNoLater-trans x y z (inl a) (inl b) = inl (omega arith)

@@ -14,5 +14,5 @@ mod LinkedLemmas
 mod NeighborLemmas
 mod PlanLemmas
 mod BoardLemmas
-mod StandingLemmas
+mod PairStateLemmas
 mod StepOfBoard

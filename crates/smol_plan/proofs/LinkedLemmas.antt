@@ -3,10 +3,11 @@ use Rattle.std.proofs.Common.{◌≡◌, ℕ, ◌+◌, ◌-◌, ◌<◌, ◌≤�
 use Rattle.std.proofs.lemmas.Bool.{cases_eq, eq-eqb, eqb-true, ne_eqb, and_parts, and_from, both_ways}
 use Rattle.smol_plan.specs.declared.pair.Side.{Side}
 use Rattle.smol_plan.specs.declared.pair.Side.TheVariants.{Low, High}
-use Rattle.smol_plan.specs.declared.plan.Entry.{Entry}
+use Rattle.smol_plan.specs.declared.entries.Entry.{Entry}
 use Rattle.smol_plan.specs.declared.plan.Links.{Links}
 use Rattle.smol_plan.specs.Pair.{is_side}
-use Rattle.smol_plan.specs.Linked.{unlinked, links_at, earlier_of, later_of, entry_at, with_earlier, with_later, joined, IsOf, IsJoint, SoFar, LinkedUpTo, AreUnlinked, AreInside}
+use Rattle.smol_plan.specs.Entries.{entry_at}
+use Rattle.smol_plan.specs.Linked.{unlinked, links_at, earlier_of, later_of, with_earlier, with_later, joined, IsOf, IsJoint, SoFar, LinkedUpTo, AreUnlinked, AreInside}
 use Rattle.smol_plan.proofs.SideLemmas.{is_side-true, is_side-refl}
 
 -- a write of one kind of neighbor leaves the other kind

@@ -3,11 +3,12 @@ use Rattle.std.proofs.Common.{◌≡◌, ℕ, ◌+◌, ◌-◌, ◌<◌, ◌≤�
 use Rattle.std.proofs.lemmas.Bool.{cases_order, cases_lt, false_from_ne_true}
 use Rattle.smol_plan.specs.declared.pair.Pair.{Pair}
 use Rattle.smol_plan.specs.declared.pair.Side.{Side}
-use Rattle.smol_plan.specs.declared.plan.Entry.{Entry}
+use Rattle.smol_plan.specs.declared.entries.Entry.{Entry}
 use Rattle.smol_plan.specs.declared.plan.Links.{Links}
 use Rattle.smol_plan.specs.Pair.{molecule_at, IsOrdered}
 use Rattle.smol_plan.specs.Links.{has_at}
-use Rattle.smol_plan.specs.Linked.{entry_at, IsOf, IsJoint, SoFar, LinkedUpTo, IsEarlier, IsLater, IsLinked, IsNoLater}
+use Rattle.smol_plan.specs.Entries.{entry_at, IsNoLater}
+use Rattle.smol_plan.specs.Linked.{IsOf, IsJoint, SoFar, LinkedUpTo, IsEarlier, IsLater, IsLinked}
 use Rattle.smol_plan.proofs.GoodLemmas.{on_a_side}
 use Rattle.smol_plan.proofs.EntryLemmas.{AreEntries, rising_far}
 use Rattle.smol_plan.proofs.SideLemmas.{has_on_side, one_side}

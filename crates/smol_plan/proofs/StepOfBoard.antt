@@ -8,12 +8,12 @@ use Rattle.smol_plan.specs.declared.pair.Side.TheVariants.{Low, High}
 use Rattle.smol_plan.specs.declared.event.Event.{Event}
 use Rattle.smol_plan.specs.declared.event.Event.TheVariants.{Take, Decide, Tell}
 use Rattle.smol_plan.specs.declared.decision.Decision.{Decision}
-use Rattle.smol_plan.specs.declared.standing.Standing.{Standing}
+use Rattle.smol_plan.specs.declared.pair_state.PairState.{PairState}
 use Rattle.smol_plan.specs.Matching.{fires}
 use Rattle.smol_plan.specs.Pair.{IsOrdered}
 use Rattle.smol_plan.specs.Links.{is_number}
 use Rattle.smol_plan.specs.Machine.{State, first_state, slice_count, IsEnabled, effect}
-use Rattle.smol_plan.specs.Standing.{fresh, told_of, ower_of, fired_of}
+use Rattle.smol_plan.specs.PairState.{fresh, told_of, ower_of, fired_of}
 use Rattle.smol_plan.specs.Good.{Good}
 use Rattle.smol_plan.specs.Law.{OfWorkers}
 use Rattle.smol_plan.specs.Board.{Board, IsWellKept, state_of, state_from, standing_at, after_slice, after_owing, after_telling}
@@ -21,7 +21,7 @@ use Rattle.smol_plan.specs.Decision.{TellsTaken}
 use Rattle.smol_plan.proofs.GoodKept.{Good-effect, Good-first}
 use Rattle.smol_plan.proofs.ProgressLemmas.{OfWorkers-first, OfWorkers-effect}
 use Rattle.smol_plan.proofs.PlanLemmas.{written_back}
-use Rattle.smol_plan.proofs.StandingLemmas.{after_both, take_is, take_decisions, decide_is, decide_decisions, tell_is, tell_decisions}
+use Rattle.smol_plan.proofs.PairStateLemmas.{after_both, take_is, take_decisions, decide_is, decide_decisions, tell_is, tell_decisions}
 use Rattle.smol_plan.proofs.StateLemmas.{State-same}
 
 -- the new board is sound, and in the state that the event leaves
@@ -29,12 +29,12 @@ pub record IsStep (old new : Board) (event : Event) : Type 0 where
   pub sound : IsWellKept new
   pub effect_is : state_of new ≡ effect old.pairs (state_of old) event
 
-abbrev pub with_parts : Board → List Bool → List Standing → Board
+abbrev pub with_parts : Board → List Bool → List PairState → Board
 with_parts board slices standings =
     record { pairs = board.pairs; workers = board.workers; slices = slices; standings = standings }
 
 -- a step that has the effect of an enabled event
-IsStep-from_effect : (board : Board) (slices : List Bool) (standings : List Standing) (event : Event) → IsWellKept board → IsEnabled board.pairs board.workers (state_of board) event → length slices ≡ length board.slices → length standings ≡ length board.standings → state_of (with_parts board slices standings) ≡ effect board.pairs (state_of board) event → ((j : ℕ) (d : Decision) → (standing_at standings j).decision ≡ Some d → TellsTaken board.pairs j d) → IsStep board (with_parts board slices standings) event
+IsStep-from_effect : (board : Board) (slices : List Bool) (standings : List PairState) (event : Event) → IsWellKept board → IsEnabled board.pairs board.workers (state_of board) event → length slices ≡ length board.slices → length standings ≡ length board.standings → state_of (with_parts board slices standings) ≡ effect board.pairs (state_of board) event → ((j : ℕ) (d : Decision) → (standing_at standings j).decision ≡ Some d → TellsTaken board.pairs j d) → IsStep board (with_parts board slices standings) event
 IsStep-from_effect board slices standings event h enabled as_many_slices as_many is tells =
     record {
       sound = record {
@@ -56,13 +56,13 @@ IsStep-from_effect board slices standings event h enabled as_many_slices as_many
         rw is (OfWorkers-effect board.pairs board.workers (state_of board) event enabled h.of_workers)
 
 -- a slice is taken
-pub IsStep-take : (board : Board) (next : List Standing) (worker slice : ℕ) → IsWellKept board → IsEnabled board.pairs board.workers (state_of board) (Take worker slice) → length next ≡ length board.standings → ((j : ℕ) → j < length board.pairs → standing_at next j ≡ after_slice board.pairs worker slice j (standing_at board.standings j)) → IsStep board (with_parts board (set board.slices slice true) next) (Take worker slice)
+pub IsStep-take : (board : Board) (next : List PairState) (worker slice : ℕ) → IsWellKept board → IsEnabled board.pairs board.workers (state_of board) (Take worker slice) → length next ≡ length board.standings → ((j : ℕ) → j < length board.pairs → standing_at next j ≡ after_slice board.pairs worker slice j (standing_at board.standings j)) → IsStep board (with_parts board (set board.slices slice true) next) (Take worker slice)
 IsStep-take board next worker slice h enabled as_many given =
     let inside : slice < length board.slices = omega (arith, enabled.in_range.1, h.all_slices) in
     IsStep-from_effect board (set board.slices slice true) next (Take worker slice) h enabled (length-set board.slices slice true) as_many (take_is board.pairs board.slices board.standings next worker slice h.one_each as_many inside enabled.allowed h.good given) (λ j d e. h.tells_taken j d (sym (take_decisions board.pairs board.slices board.standings next worker slice h.one_each as_many inside enabled.allowed h.good given j) ∙ e))
 
 -- a pair is decided
-pub IsStep-decide : (board : Board) (next : List Standing) (worker pair : ℕ) (d : Decision) → IsWellKept board → IsEnabled board.pairs board.workers (state_of board) (Decide worker pair) → length next ≡ length board.standings → d.fired ≡ fires board.pairs pair → TellsTaken board.pairs pair d → ((j : ℕ) → j < length board.pairs → standing_at next j ≡ after_both board.pairs pair worker j (standing_at (set board.standings pair (record (standing_at board.standings pair) { decision = Some d; holder = None })) j)) → IsStep board (with_parts board board.slices next) (Decide worker pair)
+pub IsStep-decide : (board : Board) (next : List PairState) (worker pair : ℕ) (d : Decision) → IsWellKept board → IsEnabled board.pairs board.workers (state_of board) (Decide worker pair) → length next ≡ length board.standings → d.fired ≡ fires board.pairs pair → TellsTaken board.pairs pair d → ((j : ℕ) → j < length board.pairs → standing_at next j ≡ after_both board.pairs pair worker j (standing_at (set board.standings pair (record (standing_at board.standings pair) { decision = Some d; holder = None })) j)) → IsStep board (with_parts board board.slices next) (Decide worker pair)
 IsStep-decide board next worker pair d h enabled as_many fired tells given =
     IsStep-from_effect board board.slices next (Decide worker pair) h enabled refl as_many (decide_is board.pairs board.slices board.standings next worker pair d h.one_each as_many h.good enabled.allowed fired given) all_tell
   where
@@ -78,11 +78,11 @@ IsStep-tell board worker pair side h enabled =
     IsStep-from_effect board board.slices (set board.standings pair (after_telling board.pairs pair side worker (standing_at board.standings pair))) (Tell worker pair side) h enabled refl (length-set board.standings pair (after_telling board.pairs pair side worker (standing_at board.standings pair))) (tell_is board.pairs board.slices board.standings worker pair side h.one_each h.good enabled.allowed) (λ j d e. h.tells_taken j d (sym (tell_decisions board.pairs board.slices board.standings worker pair side h.one_each h.good enabled.allowed j) ∙ e))
 
 -- a pair is decided, as it is written: first its standing, then what it makes owed by the one molecule and by the other
-pub IsStep-decide_written : (board : Board) (worker pair len : ℕ) (d : Decision) (old : Standing) (first low second high : List Standing) → IsWellKept board → IsEnabled board.pairs board.workers (state_of board) (Decide worker pair) → len ≡ length board.standings → old ≡ get_or board.standings pair old → d.fired ≡ fires board.pairs pair → TellsTaken board.pairs pair d → first ≡ set board.standings pair (record old { decision = Some d; holder = None }) → length low ≡ length first → ((j : ℕ) → j < length board.pairs → standing_at low j ≡ after_owing board.pairs pair Low worker j (standing_at first j)) → second ≡ take len (low ++ drop (length low) (set board.standings pair (record old { decision = Some d; holder = None }))) → length high ≡ length second → ((j : ℕ) → j < length board.pairs → standing_at high j ≡ after_owing board.pairs pair High worker j (standing_at second j)) → IsStep board (with_parts board board.slices (take len (high ++ drop (length high) (take len (low ++ drop (length low) (set board.standings pair (record old { decision = Some d; holder = None }))))))) (Decide worker pair)
+pub IsStep-decide_written : (board : Board) (worker pair len : ℕ) (d : Decision) (old : PairState) (first low second high : List PairState) → IsWellKept board → IsEnabled board.pairs board.workers (state_of board) (Decide worker pair) → len ≡ length board.standings → old ≡ get_or board.standings pair old → d.fired ≡ fires board.pairs pair → TellsTaken board.pairs pair d → first ≡ set board.standings pair (record old { decision = Some d; holder = None }) → length low ≡ length first → ((j : ℕ) → j < length board.pairs → standing_at low j ≡ after_owing board.pairs pair Low worker j (standing_at first j)) → second ≡ take len (low ++ drop (length low) (set board.standings pair (record old { decision = Some d; holder = None }))) → length high ≡ length second → ((j : ℕ) → j < length board.pairs → standing_at high j ≡ after_owing board.pairs pair High worker j (standing_at second j)) → IsStep board (with_parts board board.slices (take len (high ++ drop (length high) (take len (low ++ drop (length low) (set board.standings pair (record old { decision = Some d; holder = None }))))))) (Decide worker pair)
 IsStep-decide_written board worker pair len d old first low second high h enabled is_len at fired tells first_is low_len low_given second_is high_len high_given =
     rw whole_high (IsStep-decide board high worker pair d h enabled as_many fired tells given)
   where
-    written : List Standing
+    written : List PairState
     written = set board.standings pair (record old { decision = Some d; holder = None })
 
     written_len : length written ≡ length board.standings
@@ -94,7 +94,7 @@ IsStep-decide_written board worker pair len d old first low second high h enable
 
     same : written ≡ set board.standings pair (record (standing_at board.standings pair) { decision = Some d; holder = None })
     same =
-        ap (λ (s : Standing). set board.standings pair (record s { decision = Some d; holder = None })) (get_or_read board.standings pair old inside at fresh)
+        ap (λ (s : PairState). set board.standings pair (record s { decision = Some d; holder = None })) (get_or_read board.standings pair old inside at fresh)
 
     low_as_many : length low ≡ length written
     low_as_many = low_len ∙ ap length first_is
@@ -122,7 +122,7 @@ IsStep-decide_written board worker pair len d old first low second high h enable
 -- the machine of which nothing has happened
 pub first_is : (slices pairs : ℕ) → state_from (replicate slices false) (replicate pairs fresh) ≡ first_state
 first_is slices pairs =
-    State-same _ _ (λ k. nothing_taken k) (λ k. ap (λ (s : Standing). fired_of s.decision) (nothing_stands k)) (λ k side. ap (λ s. told_of s side) (nothing_stands k) ∙ untold side) (λ w k. ap (λ (s : Standing). is_number w s.holder) (nothing_stands k)) (λ w k side. ap (λ s. is_number w (ower_of s side)) (nothing_stands k) ∙ unowed w side)
+    State-same _ _ (λ k. nothing_taken k) (λ k. ap (λ (s : PairState). fired_of s.decision) (nothing_stands k)) (λ k side. ap (λ s. told_of s side) (nothing_stands k) ∙ untold side) (λ w k. ap (λ (s : PairState). is_number w s.holder) (nothing_stands k)) (λ w k side. ap (λ s. is_number w (ower_of s side)) (nothing_stands k) ∙ unowed w side)
   where
     anywhere : {X : Type 0} (n k : ℕ) (x : X) → get_or (replicate n x) k x ≡ x
     anywhere n k x = ⊎_elim

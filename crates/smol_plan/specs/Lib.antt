@@ -4,8 +4,9 @@ pub mod Links
 pub mod Machine
 pub mod Good
 pub mod Law
+pub mod Entries
 pub mod Linked
 pub mod Decision
-pub mod Standing
+pub mod PairState
 pub mod Board
 pub mod Kept

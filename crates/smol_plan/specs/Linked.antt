@@ -1,12 +1,13 @@
 -- How the links of a plan are kept.
-use Rattle.std.specs.Prelude.{ℕ, suc, ◌≡◌, ◌+◌, ◌<◌, ◌≤◌, ◌⊎◌, false, List, [], ◌∷◌, length, slice_index_or, slice_set}
+use Rattle.std.specs.Prelude.{ℕ, ◌≡◌, ◌+◌, ◌<◌, ◌≤◌, ◌⊎◌, false, List, [], ◌∷◌, length, slice_index_or, slice_set}
 use Rattle.smol_plan.specs.declared.pair.Pair.{Pair}
 use Rattle.smol_plan.specs.declared.pair.Side.{Side}
 use Rattle.smol_plan.specs.declared.pair.Side.TheVariants.{Low, High}
 use Rattle.smol_plan.specs.declared.plan.Links.{Links}
-use Rattle.smol_plan.specs.declared.plan.Entry.{Entry}
+use Rattle.smol_plan.specs.declared.entries.Entry.{Entry}
 use Rattle.smol_plan.specs.Pair.{molecule_at, IsOrdered}
 use Rattle.smol_plan.specs.Links.{has_at, IsLastBefore, IsNextAfter}
+use Rattle.smol_plan.specs.Entries.{entry_at}
 
 -- the links of a pair that has none, at this place
 abbrev pub unlinked : ℕ → Links
@@ -41,23 +42,6 @@ pub record IsLinked (pairs : List Pair) (links : List Links) : Type 0 where
   pub one_each : length links ≡ length pairs
   pub earlier : (j : ℕ) (side : Side) → j < length pairs → IsEarlier pairs (molecule_at pairs j side) j (earlier_of (links_at links j) side)
   pub later : (j : ℕ) (side : Side) → j < length pairs → IsLater pairs (molecule_at pairs j side) j (later_of (links_at links j) side)
-
--- two entries for each pair, from this place on
-abbrev pub entries_from : ℕ → List Pair → List Entry
-entries_from i [] = []
-entries_from i (p ∷ pairs) =
-    record { molecule = p.a; pair = i; side = Low } ∷ record { molecule = p.b; pair = i; side = High } ∷ entries_from (suc i) pairs
-
-abbrev pub entry_at : List Entry → ℕ → Entry
-entry_at entries k = slice_index_or entries k (record { molecule = 0; pair = 0; side = Low })
-
--- the one entry is of a lower molecule, or of the same molecule and no later pair
-abbrev pub IsNoLater : Entry → Entry → Type 0
-IsNoLater x y = (x.molecule < y.molecule) ⊎ ((x.molecule ≡ y.molecule) × (x.pair ≤ y.pair))
-
--- the entries rise by molecule, and those of a molecule by pair
-abbrev pub IsRising : List Entry → Type 0
-IsRising entries = (k : ℕ) → k + 1 < length entries → IsNoLater (entry_at entries k) (entry_at entries (k + 1))
 
 -- the links with the earlier neighbor on a side
 abbrev pub with_earlier : Links → Side → ℕ → Links

@@ -6,13 +6,14 @@
 #![tactic(auto)]
 
 mod decision;
+mod entries;
 mod event;
 mod law;
 mod machine;
 mod matching;
 mod pair;
+mod pair_state;
 mod plan;
-mod standing;
 #[cfg(test)]
 mod tests;
 

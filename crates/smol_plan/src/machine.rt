@@ -12,8 +12,8 @@ ghost use Rattle.smol_plan.specs.Board.{state_of, standing_at, after_slice, afte
 use crate::decision::Decision;
 use crate::event::Event;
 use crate::pair::Side;
+use crate::pair_state::PairState;
 use crate::plan::Plan;
-use crate::standing::Standing;
 use std::alloc::{AllocError, Global};
 use std::marker::Model;
 
@@ -23,7 +23,7 @@ pub struct Core {
     plan: Plan,
     workers: u32,
     taken: Vec<bool>,
-    standings: Vec<Standing>,
+    standings: Vec<PairState>,
 }
 
 impl Model for Core {
@@ -49,7 +49,7 @@ fn is_worker(one: Option<u32>, worker: u32) -> bool
 }
 
 // How many links of a pair are not told.
-fn untold(plan: &Plan, standing: &Standing, pair: usize) -> u8
+fn untold(plan: &Plan, standing: &PairState, pair: usize) -> u8
     requires { pair < length plan.now }
     ensures { result ≡ untold_count plan.now pair standing.now }
 {
@@ -59,7 +59,7 @@ fn untold(plan: &Plan, standing: &Standing, pair: usize) -> u8
 }
 
 // Gives the worker the pairs of a slice that wait for no other.
-fn hold_slice(plan: &Plan, standings: &mut [Standing], slice: usize, worker: u32)
+fn hold_slice(plan: &Plan, standings: &mut [PairState], slice: usize, worker: u32)
     requires slice { slice < slice_count plan.now }
     requires one_each { length standings.old ≡ length plan.now }
     ensures { (j : ℕ) → j < length plan.now →
@@ -74,7 +74,7 @@ fn hold_slice(plan: &Plan, standings: &mut [Standing], slice: usize, worker: u32
 }
 
 // Makes the worker owe the link that comes from a pair by the molecule on a side.
-fn owe(plan: &Plan, standings: &mut [Standing], pair: usize, side: Side, worker: u32)
+fn owe(plan: &Plan, standings: &mut [PairState], pair: usize, side: Side, worker: u32)
     requires pair { pair < length plan.now }
     requires one_each { length standings.old ≡ length plan.now }
     ensures { (k : ℕ) → k < length plan.now →
@@ -86,7 +86,7 @@ fn owe(plan: &Plan, standings: &mut [Standing], pair: usize, side: Side, worker:
 }
 
 // Whether a pair before this one that has its molecule fires, as the last of them says.
-fn is_taken(plan: &Plan, standings: &[Standing], pair: usize, side: Side) -> bool
+fn is_taken(plan: &Plan, standings: &[PairState], pair: usize, side: Side) -> bool
     requires pair { pair < length plan.now }
     requires one_each { length standings.now ≡ length plan.now }
     requires sources { SourcesTell plan.now standings.now pair }
@@ -102,7 +102,7 @@ fn is_taken(plan: &Plan, standings: &[Standing], pair: usize, side: Side) -> boo
 }
 
 // What is decided of a pair: it fires where neither of its molecules is taken.
-fn decision_of(plan: &Plan, standings: &[Standing], pair: usize) -> Decision
+fn decision_of(plan: &Plan, standings: &[PairState], pair: usize) -> Decision
     requires pair { pair < length plan.now }
     requires one_each { length standings.now ≡ length plan.now }
     requires sources { SourcesTell plan.now standings.now pair }
@@ -115,7 +115,7 @@ fn decision_of(plan: &Plan, standings: &[Standing], pair: usize) -> Decision
 }
 
 // Tells the link of a pair on a side; the worker that tells the last one gets the pair.
-fn tell_link(plan: &Plan, standing: &mut Standing, pair: usize, side: Side, worker: u32)
+fn tell_link(plan: &Plan, standing: &mut PairState, pair: usize, side: Side, worker: u32)
     requires { pair < length plan.now }
     ensures { standing.new ≡ after_telling plan.now pair side worker standing.old }
 {
@@ -137,7 +137,7 @@ impl Core {
         ensures good { IfOk result (λ core. Good core.pairs (state_of core)) }
     {
         let taken = vec![in alloc; false; plan.slices()]?;
-        let standings = vec![in alloc; Standing::fresh(); plan.len()]?;
+        let standings = vec![in alloc; PairState::fresh(); plan.len()]?;
         Ok(Core {
             plan,
             workers,

@@ -1,14 +1,13 @@
 //! A list of pairs with its links: which pair comes before and after which on a molecule.
-ghost use Rattle.std.specs.Prelude.{◌≡◌, ℕ, ◌+◌, ◌*◌, ◌<◌, ◌≤◌, ◌↔◌, [], length, true, false, Some, IfOk, IfSome, IfNone, IsTrue, IsPermutation, min, vec_len};
+ghost use Rattle.std.specs.Prelude.{◌≡◌, ℕ, ◌+◌, ◌*◌, ◌<◌, ◌≤◌, ◌↔◌, [], length, true, false, Some, IfOk, IfSome, IfNone, IsTrue, min, vec_len};
 ghost use Rattle.smol_plan.specs.declared.pair.Side.{Side};
 ghost use Rattle.smol_plan.specs.Pair.{IsOrdered, molecule_at};
 ghost use Rattle.smol_plan.specs.Links.{has_at, source_of, IsLastBefore, IsNextAfter};
-ghost use Rattle.smol_plan.specs.Linked.{unlinked, earlier_of, later_of, with_earlier, with_later, joined, entries_from, AreUnlinked, AreInside, LinkedUpTo, IsRising};
+ghost use Rattle.smol_plan.specs.Linked.{unlinked, earlier_of, later_of, with_earlier, with_later, joined, AreUnlinked, AreInside, LinkedUpTo};
 ghost use Rattle.smol_plan.specs.Machine.{slice_of, slice_count, has_no_link};
 
+use crate::entries::{Entries, Entry};
 use crate::pair::{Pair, Side};
-use rayon::prelude::*;
-use rayon::slice::par_sort_unstable;
 use std::alloc::{AllocError, Global};
 use std::marker::{Model, Sync};
 use std::ops::Range;
@@ -16,9 +15,6 @@ use std::thread::Threads;
 
 /// How many pairs a slice has, but for the last.
 const SLICE: usize = 64;
-
-/// Up to how many entries one thread sorts: before it has asked for others and started them it has sorted as many itself.
-const SHORT: usize = 4096;
 
 /// A list of pairs, in the order in which they come, with the pairs that come before and after each on its molecules.
 #[derive(Drop)]
@@ -50,8 +46,8 @@ impl Plan {
         requires ordered { IsOrdered pairs.items }
         ensures of { IfOk result (λ plan. plan ≡ pairs.items) }
     {
-        let mut entries = entries_of(alloc, &pairs)?;
-        sort_entries(rt, &mut entries);
+        let mut entries = Entries::of_pairs(alloc, &pairs)?;
+        entries.sort(rt);
         let mut links = no_links(alloc, pairs.len())?;
         join_all(&mut links, &entries);
         Ok(Plan { pairs, links })
@@ -220,62 +216,6 @@ impl Links {
     }
 }
 
-// A molecule of a pair: which, and on which side of which pair.
-#[derive(Clone, Copy, PartialEq, Eq, PartialOrd, Ord)]
-struct Entry {
-    molecule: u64,
-    pair: usize,
-    side: Side,
-}
-
-// Two entries for each pair.
-fn entries_of(alloc: Global, pairs: &[Pair]) -> Result<Vec<Entry>, AllocError>
-    ensures entries { IfOk result (λ entries. entries.items ≡ entries_from 0 pairs.now) }
-{
-    let mut entries = Vec::with_capacity(alloc, pairs.len().saturating_mul(2))?;
-    for (index, pair) in pairs.iter().enumerate() {
-        entries.push(Entry {
-            molecule: pair.a,
-            pair: index,
-            side: Side::Low,
-        })?;
-        entries.push(Entry {
-            molecule: pair.b,
-            pair: index,
-            side: Side::High,
-        })?;
-    }
-    Ok(entries)
-}
-
-// Sorts entries by molecule, and those of one molecule by pair.
-fn sort_entries<R: Threads + Sync>(rt: &R, entries: &mut [Entry])
-    ensures permutation { IsPermutation entries.old entries.new }
-    ensures rising { IsRising entries.new }
-{
-    if entries.len() <= SHORT {
-        sort_alone(entries);
-    } else {
-        sort_together(rt, entries);
-    }
-}
-
-// The same by the calling thread, which asks the system nothing.
-fn sort_alone(entries: &mut [Entry])
-    ensures permutation { IsPermutation entries.old entries.new }
-    ensures rising { IsRising entries.new }
-{
-    entries.sort_unstable();
-}
-
-// The same by many threads.
-fn sort_together<R: Threads + Sync>(rt: &R, entries: &mut [Entry])
-    ensures permutation { IsPermutation entries.old entries.new }
-    ensures rising { IsRising entries.new }
-{
-    par_sort_unstable(rt, entries);
-}
-
 // Links for this many pairs, none of which has a neighbor.
 fn no_links(alloc: Global, len: usize) -> Result<Vec<Links>, AllocError>
     ensures one_each { IfOk result (λ links. vec_len links ≡ len) }
@@ -299,13 +239,13 @@ fn join(links: &mut [Links], first: Entry, second: Entry)
 }
 
 // Joins the pairs of each two entries that follow each other and are of one molecule.
-fn join_all(links: &mut [Links], entries: &[Entry])
+fn join_all(links: &mut [Links], entries: &Entries)
     requires unlinked { AreUnlinked links.old }
     requires inside { AreInside entries.now (length links.old) }
     ensures { LinkedUpTo entries.now links.new (length entries.now) }
 {
     for next in 1..entries.len() {
-        let (first, second) = (entries[next - 1], entries[next]);
+        let (first, second) = (entries.at(next - 1), entries.at(next));
         if first.molecule == second.molecule {
             join(links, first, second);
         }

@@ -11,11 +11,11 @@ use Rattle.smol_claims.proofs.claims.Claims.decide.Goals as goal
 pub swap-requires : goal.swap-requires
 swap-requires c =
     let is : c.args.self.now ≡ task_of c.self.inside = sym c.self.view_is in
-    let place : c.decision_at-place.result ≡ decision_at c.self.inside.setup.plan c.args.pair = c.decision_at-place.ensures.value ∙ ap (λ (t : Task). decision_at t.pairs c.args.pair) is in
-    let code : c.code_of.result ≡ code_of (serial_decision c.self.inside.setup.plan c.args.pair) = c.code_of.ensures ∙ ap code_of (c.requires.serial ∙ ap (λ (t : Task). serial_decision t.pairs c.args.pair) is) in (
+    let place : c.decision_at-place.result ≡ decision_at c.self.inside.terms.plan c.args.pair = c.decision_at-place.ensures.value ∙ ap (λ (t : Task). decision_at t.pairs c.args.pair) is in
+    let code : c.code_of.result ≡ code_of (serial_decision c.self.inside.terms.plan c.args.pair) = c.code_of.ensures ∙ ap code_of (c.requires.serial ∙ ap (λ (t : Task). serial_decision t.pairs c.args.pair) is) in (
       c.requires.sits.at ∙ ap (λ t. t.table) is,
       omega (arith, c.self.invariant.words, c.decision_at-place.ensures.inside, ap (λ (t : Task). claim_word_count t.pairs) is),
-      rw (c.self.invariant.key, place) (decides c.self.inside.setup.plan c.self.inside.setup.workers _ _ c.args.seat.now.me c.args.pair c.code_of.result c.requires.sits.share (c.requires.sits.pairs ∙ ap (λ t. t.pairs) is) c.requires.holds code),
+      rw (c.self.invariant.key, place) (decides c.self.inside.terms.plan c.self.inside.terms.workers _ _ c.args.seat.now.me c.args.pair c.code_of.result c.requires.sits.share (c.requires.sits.pairs ∙ ap (λ t. t.pairs) is) c.requires.holds code),
     )
 
 pub returns-clause-sits : goal.returns-clause-sits

@@ -14,7 +14,7 @@ returns-in_default-clause-taken c =
 
 pub returns-in-Some-decision_in-clause-taken : goal.returns-in-Some-decision_in-clause-taken
 returns-in-Some-decision_in-clause-taken c =
-    let pairs : List Pair = c.self.inside.setup.plan in
+    let pairs : List Pair = c.self.inside.terms.plan in
     let is : c.args.self.now.pairs ≡ pairs = ap (λ t. t.pairs) (sym c.self.view_is) in
     let mine : c.args.seat.now.me.0.pairs ≡ pairs = c.requires.sits.pairs ∙ is in
     let source : source_of c.args.seat.now.me.0.pairs c.args.pair c.args.side ≡ Some c.in-Some.source = ap (λ ps. source_of ps c.args.pair c.args.side) mine ∙ sym c.in-Some.ensures.source in

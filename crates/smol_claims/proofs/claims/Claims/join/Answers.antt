@@ -8,5 +8,5 @@ join_seat-requires c = (
   ap (λ h. h.table) c.worker.view_is ∙ c.requires.works.table ∙ ap (λ t. t.table) (sym c.self.view_is),
   c.worker.invariant.slots,
   omega (arith, c.self.invariant.words),
-  rw c.self.invariant.key (joins c.self.inside.setup.plan c.self.inside.setup.workers _ _ _ _ c.requires.sits.share c.worker.invariant.done.held c.worker.invariant.done.owed),
+  rw c.self.invariant.key (joins c.self.inside.terms.plan c.self.inside.terms.workers _ _ _ _ c.requires.sits.share c.worker.invariant.done.held c.worker.invariant.done.owed),
 )

@@ -10,11 +10,11 @@ use Rattle.smol_claims.proofs.claims.Claims.look_at.Goals as goal
 pub load-requires : goal.load-requires
 load-requires c =
     let is : c.args.self.now ≡ task_of c.self.inside = sym c.self.view_is in
-    let inside : c.args.pair < length c.self.inside.setup.plan = subst (λ (t : Task). c.args.pair < length t.pairs) is c.requires.pair in
-    let place : c.decision_at-place.result ≡ decision_at c.self.inside.setup.plan c.args.pair = c.decision_at-place.ensures.value ∙ ap (λ (t : Task). decision_at t.pairs c.args.pair) is in (
+    let inside : c.args.pair < length c.self.inside.terms.plan = subst (λ (t : Task). c.args.pair < length t.pairs) is c.requires.pair in
+    let place : c.decision_at-place.result ≡ decision_at c.self.inside.terms.plan c.args.pair = c.decision_at-place.ensures.value ∙ ap (λ (t : Task). decision_at t.pairs c.args.pair) is in (
       c.requires.sits.at ∙ ap (λ t. t.table) is,
       omega (arith, c.self.invariant.words, c.decision_at-place.ensures.inside, ap (λ (t : Task). claim_word_count t.pairs) is),
-      rw (c.self.invariant.key, place) (looks c.self.inside.setup.plan c.self.inside.setup.workers _ _ c.args.seat.now.me c.args.pair c.requires.sits.share (c.requires.sits.pairs ∙ ap (λ t. t.pairs) is) inside),
+      rw (c.self.invariant.key, place) (looks c.self.inside.terms.plan c.self.inside.terms.workers _ _ c.args.seat.now.me c.args.pair c.requires.sits.share (c.requires.sits.pairs ∙ ap (λ t. t.pairs) is) inside),
     )
 
 pub returns-clause-looks : goal.returns-clause-looks

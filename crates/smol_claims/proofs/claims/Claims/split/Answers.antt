@@ -6,5 +6,5 @@ pub split_seat-requires : goal.split_seat-requires
 split_seat-requires c = (
   c.requires.table ∙ ap (λ t. t.table) (sym c.self.view_is),
   omega (arith, c.self.invariant.words),
-  rw c.self.invariant.key (splits c.self.inside.setup.plan c.self.inside.setup.workers _ _ c.requires.share),
+  rw c.self.invariant.key (splits c.self.inside.terms.plan c.self.inside.terms.workers _ _ c.requires.share),
 )

@@ -10,10 +10,10 @@ use Rattle.smol_claims.proofs.claims.Claims.take.Goals as goal
 pub swap-requires : goal.swap-requires
 swap-requires c =
     let is : c.args.self.now ≡ task_of c.self.inside = sym c.self.view_is in
-    let inside : c.args.slice < slice_count c.self.inside.setup.plan = subst (λ (t : Task). c.args.slice < slice_count t.pairs) is c.requires.slice in (
+    let inside : c.args.slice < slice_count c.self.inside.terms.plan = subst (λ (t : Task). c.args.slice < slice_count t.pairs) is c.requires.slice in (
       c.requires.sits.at ∙ ap (λ t. t.table) is,
       omega (arith, c.self.invariant.words, inside),
-      rw c.self.invariant.key (takes c.self.inside.setup.plan c.self.inside.setup.workers _ _ c.args.seat.now.me c.args.slice c.requires.sits.share inside),
+      rw c.self.invariant.key (takes c.self.inside.terms.plan c.self.inside.terms.workers _ _ c.args.seat.now.me c.args.slice c.requires.sits.share inside),
     )
 
 pub returns-clause-sits : goal.returns-clause-sits

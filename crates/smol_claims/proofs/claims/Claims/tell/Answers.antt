@@ -12,21 +12,21 @@ use Rattle.smol_claims.proofs.claims.Claims.tell.Goals as goal
 pub fetch_sub-requires : goal.fetch_sub-requires
 fetch_sub-requires c =
     let is : c.args.self.now ≡ task_of c.self.inside = sym c.self.view_is in
-    let place : c.counter_at-place.result ≡ counter_at c.self.inside.setup.plan c.args.pair = c.counter_at-place.ensures.value ∙ ap (λ (t : Task). counter_at t.pairs c.args.pair) is in
+    let place : c.counter_at-place.result ≡ counter_at c.self.inside.terms.plan c.args.pair = c.counter_at-place.ensures.value ∙ ap (λ (t : Task). counter_at t.pairs c.args.pair) is in
     let owes : has_link c.args.seat.now.me.0.owed c.args.pair Low ≡ true = ap (has_link c.args.seat.now.me.0.owed c.args.pair) (sym c.in-Low.is) ∙ c.requires.owes in (
       c.requires.sits.at ∙ ap (λ t. t.table) is,
       omega (arith, c.self.invariant.words, c.counter_at-place.ensures.inside, ap (λ (t : Task). claim_word_count t.pairs) is),
-      rw (c.self.invariant.key, place) (tells c.self.inside.setup.plan c.self.inside.setup.workers _ _ c.args.seat.now.me c.args.pair Low c.requires.sits.share (c.requires.sits.pairs ∙ ap (λ t. t.pairs) is) owes),
+      rw (c.self.invariant.key, place) (tells c.self.inside.terms.plan c.self.inside.terms.workers _ _ c.args.seat.now.me c.args.pair Low c.requires.sits.share (c.requires.sits.pairs ∙ ap (λ t. t.pairs) is) owes),
     )
 
 pub fetch_sub-requires-in-High : goal.fetch_sub-requires-in-High
 fetch_sub-requires-in-High c =
     let is : c.args.self.now ≡ task_of c.self.inside = sym c.self.view_is in
-    let place : c.counter_at-place.result ≡ counter_at c.self.inside.setup.plan c.args.pair = c.counter_at-place.ensures.value ∙ ap (λ (t : Task). counter_at t.pairs c.args.pair) is in
+    let place : c.counter_at-place.result ≡ counter_at c.self.inside.terms.plan c.args.pair = c.counter_at-place.ensures.value ∙ ap (λ (t : Task). counter_at t.pairs c.args.pair) is in
     let owes : has_link c.args.seat.now.me.0.owed c.args.pair High ≡ true = ap (has_link c.args.seat.now.me.0.owed c.args.pair) (sym c.in-High.is) ∙ c.requires.owes in (
       c.requires.sits.at ∙ ap (λ t. t.table) is,
       omega (arith, c.self.invariant.words, c.counter_at-place.ensures.inside, ap (λ (t : Task). claim_word_count t.pairs) is),
-      rw (c.self.invariant.key, place) (tells c.self.inside.setup.plan c.self.inside.setup.workers _ _ c.args.seat.now.me c.args.pair High c.requires.sits.share (c.requires.sits.pairs ∙ ap (λ t. t.pairs) is) owes),
+      rw (c.self.invariant.key, place) (tells c.self.inside.terms.plan c.self.inside.terms.workers _ _ c.args.seat.now.me c.args.pair High c.requires.sits.share (c.requires.sits.pairs ∙ ap (λ t. t.pairs) is) owes),
     )
 
 pub returns-in-Low-clause-sits : goal.returns-in-Low-clause-sits

@@ -3,7 +3,7 @@ use Rattle.smol_plan.specs.declared.event.Event.TheVariants.{Decide}
 use Rattle.smol_plan.specs.Machine.{IsEnabled, after_decide}
 use Rattle.smol_plan.specs.Board.{Board, state_of}
 use Rattle.smol_plan.specs.Kept.{board_of}
-use Rattle.smol_plan.proofs.StandingLemmas.{SourcesTell-held}
+use Rattle.smol_plan.proofs.PairStateLemmas.{SourcesTell-held}
 use Rattle.smol_plan.proofs.StepOfBoard.{IsStep-decide_written}
 use Rattle.smol_plan.proofs.machine.Core.decide.Goals as goal
 

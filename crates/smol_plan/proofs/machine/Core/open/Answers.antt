@@ -1,6 +1,6 @@
 use Rattle.std.proofs.Common.{◌≡◌, length, replicate, false, ◌∙◌, ap}
 use Rattle.smol_plan.specs.Machine.{slice_count}
-use Rattle.smol_plan.specs.Standing.{fresh}
+use Rattle.smol_plan.specs.PairState.{fresh}
 use Rattle.smol_plan.specs.Board.{IsWellKept, state_of}
 use Rattle.smol_plan.specs.Pair.{IsOrdered}
 use Rattle.smol_plan.proofs.StepOfBoard.{IsWellKept-first, first_is}

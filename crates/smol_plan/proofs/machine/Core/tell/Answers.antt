@@ -2,7 +2,7 @@ use Rattle.std.proofs.Common.{◌≡◌, ◌<◌, length, ◌∙◌, ap, set, ar
 use Rattle.std.proofs.lemmas.List.{get_or_read}
 use Rattle.smol_plan.specs.declared.event.Event.TheVariants.{Tell}
 use Rattle.smol_plan.specs.Machine.{IsEnabled, after_tell}
-use Rattle.smol_plan.specs.Standing.{fresh}
+use Rattle.smol_plan.specs.PairState.{fresh}
 use Rattle.smol_plan.specs.Board.{Board, IsWellKept, state_of, standing_at, after_telling}
 use Rattle.smol_plan.specs.Kept.{board_of}
 use Rattle.smol_plan.proofs.StepOfBoard.{with_parts, IsStep-tell}

@@ -3,30 +3,30 @@ use Rattle.std.specs.Prelude.{ℕ, Bool, true, false, Option, Some, None}
 use Rattle.smol_plan.specs.declared.pair.Side.{Side}
 use Rattle.smol_plan.specs.declared.pair.Side.TheVariants.{Low, High}
 use Rattle.smol_plan.specs.declared.decision.Decision.{Decision}
-use Rattle.smol_plan.specs.declared.standing.Standing.{Standing}
+use Rattle.smol_plan.specs.declared.pair_state.PairState.{PairState}
 
 -- of a pair of which nothing has happened
-abbrev pub fresh : Standing
+abbrev pub fresh : PairState
 fresh =
     record { decision = None; holder = None; told_low = false; told_high = false; ower_low = None; ower_high = None }
 
 -- whether the link on a side is told
-abbrev pub told_of : Standing → Side → Bool
+abbrev pub told_of : PairState → Side → Bool
 told_of s Low = s.told_low
 told_of s High = s.told_high
 
 -- who owes the link on a side
-abbrev pub ower_of : Standing → Side → Option ℕ
+abbrev pub ower_of : PairState → Side → Option ℕ
 ower_of s Low = s.ower_low
 ower_of s High = s.ower_high
 
 -- with the link on a side told
-abbrev pub set_told : Standing → Side → Standing
+abbrev pub set_told : PairState → Side → PairState
 set_told s Low = record s { told_low = true }
 set_told s High = record s { told_high = true }
 
 -- with the link on a side owed by this one
-abbrev pub set_ower : Standing → Side → Option ℕ → Standing
+abbrev pub set_ower : PairState → Side → Option ℕ → PairState
 set_ower s Low o = record s { ower_low = o }
 set_ower s High o = record s { ower_high = o }
 

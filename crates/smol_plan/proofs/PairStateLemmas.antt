@@ -7,13 +7,13 @@ use Rattle.smol_plan.specs.declared.pair.Pair.{Pair}
 use Rattle.smol_plan.specs.declared.pair.Side.{Side}
 use Rattle.smol_plan.specs.declared.pair.Side.TheVariants.{Low, High}
 use Rattle.smol_plan.specs.declared.decision.Decision.{Decision}
-use Rattle.smol_plan.specs.declared.standing.Standing.{Standing}
+use Rattle.smol_plan.specs.declared.pair_state.PairState.{PairState}
 use Rattle.smol_plan.specs.Pair.{is_side, molecule_at}
 use Rattle.smol_plan.specs.Matching.{fires}
 use Rattle.smol_plan.specs.Links.{comes_by, is_number, comes_from}
 use Rattle.smol_plan.specs.Machine.{slice_of, has_no_link, left_of, is_decided, is_beaten, after_take, after_decide, with_told, after_tell}
 use Rattle.smol_plan.specs.Good.{Good, HasDecidedSource}
-use Rattle.smol_plan.specs.Standing.{fresh, told_of, ower_of, set_told, set_ower, fired_of}
+use Rattle.smol_plan.specs.PairState.{fresh, told_of, ower_of, set_told, set_ower, fired_of}
 use Rattle.smol_plan.specs.Board.{standing_at, state_from, after_slice, after_owing, untold_count, after_telling, SourceTells, SourcesTell}
 use Rattle.smol_plan.specs.Decision.{TellsTaken}
 use Rattle.smol_plan.proofs.SideLemmas.{is_side-true, is_side-refl}
@@ -23,7 +23,7 @@ use Rattle.smol_plan.proofs.GoodKept.{is_number_from, held_by_nobody, only_ower}
 use Rattle.smol_plan.proofs.StateLemmas.{State-same}
 
 -- past the end of the list there is nothing
-standing_past : (standings : List Standing) (j : ℕ) → length standings ≤ j → standing_at standings j ≡ fresh
+standing_past : (standings : List PairState) (j : ℕ) → length standings ≤ j → standing_at standings j ≡ fresh
 standing_past standings j l = get_or_past standings j fresh l
 
 eqb_swap : (a b : ℕ) → (a == b) ≡ (b == a)
@@ -45,27 +45,27 @@ is_number-choice false w worker o h = pad (w == worker) (is_number w o)
     pad true y = refl
     pad false y = refl
 
-with_holder-decision : (b : Bool) (s : Standing) (o : Option ℕ) → (if b then record s { holder = o } else s).decision ≡ s.decision
+with_holder-decision : (b : Bool) (s : PairState) (o : Option ℕ) → (if b then record s { holder = o } else s).decision ≡ s.decision
 with_holder-decision true s o = refl
 with_holder-decision false s o = refl
 
-with_holder-told : (b : Bool) (s : Standing) (o : Option ℕ) (side : Side) → told_of (if b then record s { holder = o } else s) side ≡ told_of s side
+with_holder-told : (b : Bool) (s : PairState) (o : Option ℕ) (side : Side) → told_of (if b then record s { holder = o } else s) side ≡ told_of s side
 with_holder-told true s o Low = refl
 with_holder-told true s o High = refl
 with_holder-told false s o side = refl
 
-with_holder-ower : (b : Bool) (s : Standing) (o : Option ℕ) (side : Side) → ower_of (if b then record s { holder = o } else s) side ≡ ower_of s side
+with_holder-ower : (b : Bool) (s : PairState) (o : Option ℕ) (side : Side) → ower_of (if b then record s { holder = o } else s) side ≡ ower_of s side
 with_holder-ower true s o Low = refl
 with_holder-ower true s o High = refl
 with_holder-ower false s o side = refl
 
-with_holder-holder : (b : Bool) (s : Standing) (o : Option ℕ) → (if b then record s { holder = o } else s).holder ≡ (if b then o else s.holder)
+with_holder-holder : (b : Bool) (s : PairState) (o : Option ℕ) → (if b then record s { holder = o } else s).holder ≡ (if b then o else s.holder)
 with_holder-holder true s o = refl
 with_holder-holder false s o = refl
 
-module _ (pairs : List Pair) (slices : List Bool) (standings next : List Standing) (worker slice : ℕ) (one_each : length standings ≡ length pairs) (as_many : length next ≡ length standings) (slice_in : slice < length slices) (untaken : get_or slices slice false ≡ false) (g : Good pairs (state_from slices standings)) (given : (j : ℕ) → j < length pairs → standing_at next j ≡ after_slice pairs worker slice j (standing_at standings j)) where
+module _ (pairs : List Pair) (slices : List Bool) (standings next : List PairState) (worker slice : ℕ) (one_each : length standings ≡ length pairs) (as_many : length next ≡ length standings) (slice_in : slice < length slices) (untaken : get_or slices slice false ≡ false) (g : Good pairs (state_from slices standings)) (given : (j : ℕ) → j < length pairs → standing_at next j ≡ after_slice pairs worker slice j (standing_at standings j)) where
   -- what is the same of each standing
-  take_same : {A : Type 0} (f : Standing → A) → ((j : ℕ) → f (after_slice pairs worker slice j (standing_at standings j)) ≡ f (standing_at standings j)) → (j : ℕ) → f (standing_at next j) ≡ f (standing_at standings j)
+  take_same : {A : Type 0} (f : PairState → A) → ((j : ℕ) → f (after_slice pairs worker slice j (standing_at standings j)) ≡ f (standing_at standings j)) → (j : ℕ) → f (standing_at next j) ≡ f (standing_at standings j)
   take_same f same j = ⊎_elim
       (λ (l : j < length pairs). ap f (given j l) ∙ same j)
       (λ (l : length pairs ≤ j). ap f (standing_past next j (omega arith) ∙ sym (standing_past standings j (omega arith))))
@@ -101,26 +101,26 @@ module _ (pairs : List Pair) (slices : List Bool) (standings next : List Standin
       take_same (λ s. s.decision) (λ j. with_holder-decision _ (standing_at standings j) (Some worker))
 
 -- what owing leaves of a standing, by whether each of its links comes from the pair
-owing : Bool → Bool → Standing → ℕ → Standing
+owing : Bool → Bool → PairState → ℕ → PairState
 owing low high s worker =
     let one = if low then set_ower s Low (Some worker) else s in
     if high then set_ower one High (Some worker) else one
 
-owing-decision : (a b : Bool) (s : Standing) (w : ℕ) → (owing a b s w).decision ≡ s.decision
+owing-decision : (a b : Bool) (s : PairState) (w : ℕ) → (owing a b s w).decision ≡ s.decision
 unfolding owing
 owing-decision true true s w = refl
 owing-decision true false s w = refl
 owing-decision false true s w = refl
 owing-decision false false s w = refl
 
-owing-holder : (a b : Bool) (s : Standing) (w : ℕ) → (owing a b s w).holder ≡ s.holder
+owing-holder : (a b : Bool) (s : PairState) (w : ℕ) → (owing a b s w).holder ≡ s.holder
 unfolding owing
 owing-holder true true s w = refl
 owing-holder true false s w = refl
 owing-holder false true s w = refl
 owing-holder false false s w = refl
 
-owing-told : (a b : Bool) (s : Standing) (w : ℕ) (side : Side) → told_of (owing a b s w) side ≡ told_of s side
+owing-told : (a b : Bool) (s : PairState) (w : ℕ) (side : Side) → told_of (owing a b s w) side ≡ told_of s side
 unfolding owing
 owing-told true true s w Low = refl
 owing-told true true s w High = refl
@@ -130,14 +130,14 @@ owing-told false true s w Low = refl
 owing-told false true s w High = refl
 owing-told false false s w side = refl
 
-owing-low : (a b : Bool) (s : Standing) (w : ℕ) → ower_of (owing a b s w) Low ≡ (if a then Some w else ower_of s Low)
+owing-low : (a b : Bool) (s : PairState) (w : ℕ) → ower_of (owing a b s w) Low ≡ (if a then Some w else ower_of s Low)
 unfolding owing
 owing-low true true s w = refl
 owing-low true false s w = refl
 owing-low false true s w = refl
 owing-low false false s w = refl
 
-owing-high : (a b : Bool) (s : Standing) (w : ℕ) → ower_of (owing a b s w) High ≡ (if b then Some w else ower_of s High)
+owing-high : (a b : Bool) (s : PairState) (w : ℕ) → ower_of (owing a b s w) High ≡ (if b then Some w else ower_of s High)
 unfolding owing
 owing-high true true s w = refl
 owing-high true false s w = refl
@@ -145,21 +145,21 @@ owing-high false true s w = refl
 owing-high false false s w = refl
 
 -- after owing by both molecules of a pair
-abbrev pub after_both : List Pair → ℕ → ℕ → ℕ → Standing → Standing
+abbrev pub after_both : List Pair → ℕ → ℕ → ℕ → PairState → PairState
 after_both pairs pair worker k s =
     after_owing pairs pair High worker k (after_owing pairs pair Low worker k s)
 
-after_both-decision : (pairs : List Pair) (pair worker k : ℕ) (s : Standing) → (after_both pairs pair worker k s).decision ≡ s.decision
+after_both-decision : (pairs : List Pair) (pair worker k : ℕ) (s : PairState) → (after_both pairs pair worker k s).decision ≡ s.decision
 unfolding owing
 after_both-decision pairs pair worker k s =
     owing-decision (comes_by pairs pair High k Low) (comes_by pairs pair High k High) (after_owing pairs pair Low worker k s) worker ∙ owing-decision (comes_by pairs pair Low k Low) (comes_by pairs pair Low k High) s worker
 
-after_both-holder : (pairs : List Pair) (pair worker k : ℕ) (s : Standing) → (after_both pairs pair worker k s).holder ≡ s.holder
+after_both-holder : (pairs : List Pair) (pair worker k : ℕ) (s : PairState) → (after_both pairs pair worker k s).holder ≡ s.holder
 unfolding owing
 after_both-holder pairs pair worker k s =
     owing-holder (comes_by pairs pair High k Low) (comes_by pairs pair High k High) (after_owing pairs pair Low worker k s) worker ∙ owing-holder (comes_by pairs pair Low k Low) (comes_by pairs pair Low k High) s worker
 
-after_both-told : (pairs : List Pair) (pair worker k : ℕ) (s : Standing) (side : Side) → told_of (after_both pairs pair worker k s) side ≡ told_of s side
+after_both-told : (pairs : List Pair) (pair worker k : ℕ) (s : PairState) (side : Side) → told_of (after_both pairs pair worker k s) side ≡ told_of s side
 unfolding owing
 after_both-told pairs pair worker k s side =
     owing-told (comes_by pairs pair High k Low) (comes_by pairs pair High k High) (after_owing pairs pair Low worker k s) worker side ∙ owing-told (comes_by pairs pair Low k Low) (comes_by pairs pair Low k High) s worker side
@@ -170,7 +170,7 @@ either_choice true false w o = refl
 either_choice false true w o = refl
 either_choice false false w o = refl
 
-after_both-ower : (pairs : List Pair) (pair worker k : ℕ) (s : Standing) (side : Side) → ower_of (after_both pairs pair worker k s) side ≡ (if comes_by pairs pair Low k side || comes_by pairs pair High k side then Some worker else ower_of s side)
+after_both-ower : (pairs : List Pair) (pair worker k : ℕ) (s : PairState) (side : Side) → ower_of (after_both pairs pair worker k s) side ≡ (if comes_by pairs pair Low k side || comes_by pairs pair High k side then Some worker else ower_of s side)
 unfolding owing
 after_both-ower pairs pair worker k s Low =
     owing-low (comes_by pairs pair High k Low) (comes_by pairs pair High k High) (after_owing pairs pair Low worker k s) worker ∙ ap (λ o. if comes_by pairs pair High k Low then Some worker else o) (owing-low (comes_by pairs pair Low k Low) (comes_by pairs pair Low k High) s worker) ∙ either_choice (comes_by pairs pair Low k Low) (comes_by pairs pair High k Low) worker (ower_of s Low)
@@ -189,7 +189,7 @@ comes_by_either pairs pair k side = go (comes_from pairs pair k side) refl
         by_side (Low, h) = rw (eq-eqb _ _ (sym h)) refl
         by_side (High, h) = or_right _ _ (eq-eqb _ _ (sym h))
 
-module _ (pairs : List Pair) (slices : List Bool) (standings next : List Standing) (worker pair : ℕ) (d : Decision) (one_each : length standings ≡ length pairs) (as_many : length next ≡ length standings) (g : Good pairs (state_from slices standings)) (holds : is_number worker (standing_at standings pair).holder ≡ true) (fired : d.fired ≡ fires pairs pair) (given : (j : ℕ) → j < length pairs → standing_at next j ≡ after_both pairs pair worker j (standing_at (set standings pair (record (standing_at standings pair) { decision = Some d; holder = None })) j)) where
+module _ (pairs : List Pair) (slices : List Bool) (standings next : List PairState) (worker pair : ℕ) (d : Decision) (one_each : length standings ≡ length pairs) (as_many : length next ≡ length standings) (g : Good pairs (state_from slices standings)) (holds : is_number worker (standing_at standings pair).holder ≡ true) (fired : d.fired ≡ fires pairs pair) (given : (j : ℕ) → j < length pairs → standing_at next j ≡ after_both pairs pair worker j (standing_at (set standings pair (record (standing_at standings pair) { decision = Some d; holder = None })) j)) where
   pair_in : pair < length pairs
   pair_in = (g.held worker pair holds).in_list
 
@@ -201,7 +201,7 @@ module _ (pairs : List Pair) (slices : List Bool) (standings next : List Standin
   decide_other j n = get_or-set_other standings pair j _ fresh n
 
   -- past the end nothing changes
-  decide_past : {A : Type 0} (f : Standing → A) (j : ℕ) → length pairs ≤ j → f (standing_at next j) ≡ f (standing_at standings j)
+  decide_past : {A : Type 0} (f : PairState → A) (j : ℕ) → length pairs ≤ j → f (standing_at next j) ≡ f (standing_at standings j)
   decide_past f j l =
       ap f (standing_past next j (omega arith) ∙ sym (standing_past standings j (omega arith)))
 
@@ -309,33 +309,33 @@ module _ (pairs : List Pair) (slices : List Bool) (standings next : List Standin
           (cases_eq j pair)
 
 -- a link told and no longer owed
-told_of-set_told : (s : Standing) (t side : Side) → told_of (set_told s side) t ≡ (is_side t side || told_of s t)
+told_of-set_told : (s : PairState) (t side : Side) → told_of (set_told s side) t ≡ (is_side t side || told_of s t)
 told_of-set_told s Low Low = refl
 told_of-set_told s Low High = refl
 told_of-set_told s High Low = refl
 told_of-set_told s High High = refl
 
-told_of-set_ower : (s : Standing) (t side : Side) (o : Option ℕ) → told_of (set_ower s side o) t ≡ told_of s t
+told_of-set_ower : (s : PairState) (t side : Side) (o : Option ℕ) → told_of (set_ower s side o) t ≡ told_of s t
 told_of-set_ower s Low Low o = refl
 told_of-set_ower s Low High o = refl
 told_of-set_ower s High Low o = refl
 told_of-set_ower s High High o = refl
 
-ower_of-telling : (s : Standing) (t side : Side) → ower_of (set_ower (set_told s side) side None) t ≡ (if is_side t side then None else ower_of s t)
+ower_of-telling : (s : PairState) (t side : Side) → ower_of (set_ower (set_told s side) side None) t ≡ (if is_side t side then None else ower_of s t)
 ower_of-telling s Low Low = refl
 ower_of-telling s Low High = refl
 ower_of-telling s High Low = refl
 ower_of-telling s High High = refl
 
-decision-telling : (s : Standing) (side : Side) → (set_ower (set_told s side) side None).decision ≡ s.decision
+decision-telling : (s : PairState) (side : Side) → (set_ower (set_told s side) side None).decision ≡ s.decision
 decision-telling s Low = refl
 decision-telling s High = refl
 
-holder-telling : (s : Standing) (side : Side) → (set_ower (set_told s side) side None).holder ≡ s.holder
+holder-telling : (s : PairState) (side : Side) → (set_ower (set_told s side) side None).holder ≡ s.holder
 holder-telling s Low = refl
 holder-telling s High = refl
 
-module _ (pairs : List Pair) (slices : List Bool) (standings : List Standing) (worker pair : ℕ) (side : Side) (one_each : length standings ≡ length pairs) (g : Good pairs (state_from slices standings)) (owes : is_number worker (ower_of (standing_at standings pair) side) ≡ true) where
+module _ (pairs : List Pair) (slices : List Bool) (standings : List PairState) (worker pair : ℕ) (side : Side) (one_each : length standings ≡ length pairs) (g : Good pairs (state_from slices standings)) (owes : is_number worker (ower_of (standing_at standings pair) side) ≡ true) where
   tell_source : HasDecidedSource pairs (state_from slices standings) pair side
   tell_source = owed_source pairs (state_from slices standings) g worker pair side owes
 
@@ -350,7 +350,7 @@ module _ (pairs : List Pair) (slices : List Bool) (standings : List Standing) (w
   tell_other j n = get_or-set_other standings pair j _ fresh n
 
   -- of the pair and of another, a part of the standing
-  tell_part : {A : Type 0} (f : Standing → A) (r : ℕ → A) → f (after_telling pairs pair side worker (standing_at standings pair)) ≡ r pair → ((j : ℕ) → (j == pair) ≡ false → f (standing_at standings j) ≡ r j) → (j : ℕ) → f (standing_at (set standings pair (after_telling pairs pair side worker (standing_at standings pair))) j) ≡ r j
+  tell_part : {A : Type 0} (f : PairState → A) (r : ℕ → A) → f (after_telling pairs pair side worker (standing_at standings pair)) ≡ r pair → ((j : ℕ) → (j == pair) ≡ false → f (standing_at standings j) ≡ r j) → (j : ℕ) → f (standing_at (set standings pair (after_telling pairs pair side worker (standing_at standings pair))) j) ≡ r j
   tell_part f r here elsewhere j = ⊎_elim
       (λ (e : j ≡ pair). ap f (tell_this j e) ∙ here ∙ ap r (sym e))
       (λ (n : j ≡ pair → ⊥). ap f (tell_other j n) ∙ elsewhere j (ne_eqb j pair n))
@@ -425,7 +425,7 @@ module _ (pairs : List Pair) (slices : List Bool) (standings : List Standing) (w
       tell_part (λ s. s.decision) (λ j. (standing_at standings j).decision) (with_holder-decision _ (set_ower (set_told (standing_at standings pair) side) side None) (Some worker) ∙ decision-telling (standing_at standings pair) side) (λ j e. refl)
 
 -- the sources of a held pair are decided
-pub SourcesTell-held : (pairs : List Pair) (slices : List Bool) (standings : List Standing) (w pair : ℕ) → Good pairs (state_from slices standings) → is_number w (standing_at standings pair).holder ≡ true → ((j : ℕ) (d : Decision) → (standing_at standings j).decision ≡ Some d → TellsTaken pairs j d) → SourcesTell pairs standings pair
+pub SourcesTell-held : (pairs : List Pair) (slices : List Bool) (standings : List PairState) (w pair : ℕ) → Good pairs (state_from slices standings) → is_number w (standing_at standings pair).holder ≡ true → ((j : ℕ) (d : Decision) → (standing_at standings j).decision ≡ Some d → TellsTaken pairs j d) → SourcesTell pairs standings pair
 SourcesTell-held pairs slices standings w pair g h tells side i e =
     at_source (told_source pairs (state_from slices standings) g pair side (AllTold-from_left pairs (state_from slices standings) pair (g.held w pair h).all_told side (rw e refl)))
   where

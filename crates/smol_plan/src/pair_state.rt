@@ -6,7 +6,7 @@ use crate::pair::Side;
 
 /// How it stands with a pair: what is decided, which of its links are told, and who holds it and owes its links.
 #[derive(Clone, Copy, Debug)]
-pub(crate) struct Standing {
+pub(crate) struct PairState {
     pub(crate) decision: Option<Decision>,
     pub(crate) holder: Option<u32>,
     told_low: bool,
@@ -15,14 +15,14 @@ pub(crate) struct Standing {
     ower_high: Option<u32>,
 }
 
-impl Standing {
-    ghost use Rattle.smol_plan.specs.Standing.{fresh, fired_of, told_of, ower_of, set_told, set_ower};
+impl PairState {
+    ghost use Rattle.smol_plan.specs.PairState.{fresh, fired_of, told_of, ower_of, set_told, set_ower};
 
     /// Of a pair of which nothing has happened.
     pub(crate) fn fresh() -> Self
         ensures { result ≡ fresh }
     {
-        Standing {
+        PairState {
             decision: None,
             holder: None,
             told_low: false,
