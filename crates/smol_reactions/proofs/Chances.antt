@@ -18,7 +18,7 @@ quotient : (n : ℕ) → whole_chance * (n / whole_chance) ≤ n
 quotient n = omega arith
 
 -- a reaction of one reactant alone
-alone_is_one : (species : ℕ) (reactants : List ℕ) → reacts_alone species reactants ≡ true → length reactants ≡ 1
+pub alone_is_one : (species : ℕ) (reactants : List ℕ) → reacts_alone species reactants ≡ true → length reactants ≡ 1
 alone_is_one species [] alone = absurd (let no : false ≡ true = alone in cc)
 alone_is_one species (one ∷ []) alone = refl
 alone_is_one species (one ∷ two ∷ more) alone = absurd (let no : false ≡ true = alone in cc)

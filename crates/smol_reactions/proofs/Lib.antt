@@ -6,4 +6,6 @@ pub mod SchemeLemmas
 pub mod MoreSaid
 pub mod TableLemmas
 pub mod Chances
+pub mod Rated
+pub mod RatedAlone
 pub mod SoundSaid

@@ -8,7 +8,7 @@ use Rattle.smol_types.specs.declared.fault.Kind.{Kind}
 use Rattle.smol_types.specs.declared.fault.Kind.TheVariants.{BadReaction}
 use Rattle.smol_line.specs.Checks.{with_value}
 use Rattle.smol_line.specs.SpeciesWord.{species_word_in}
-use Rattle.smol_reactions.specs.Arrangement.{is_arrow, is_plus, is_sum, is_nothing, is_zero, is_right, is_rated, stands_for_species, stands_for_rate, summands, left_in}
+use Rattle.smol_reactions.specs.Arrangement.{is_arrow, is_plus, is_sum, is_nothing, is_zero, is_right, is_rated, stands_for_species, stands_for_rate, summands, left_in, products_in, rated}
 use Rattle.smol_reactions.specs.Reaction.{numbers_in}
 use Rattle.smol_reactions.proofs.Parts.{part_none, part_one, part_two, part_front, part_last}
 
@@ -99,6 +99,11 @@ arrow_nowhere words at behind end others =
 -- a side is rated where all its words but the last are a right side and that one is a rate
 pub rated_is : (words : List (List ℕ)) (start end : ℕ) → start < end → end ≤ length words → is_rated (slice_range words start end) ≡ (is_right (slice_range words start (end - 1)) && stands_for_rate (get_or words (end - 1) []))
 rated_is words start end begun within =
+    rw (part_front words start end begun within, part_last words start end [] begun within) refl
+
+-- the words of a rated side are those before the last one, which is the rate
+pub rated_words : (words : List (List ℕ)) (start end : ℕ) → start < end → end ≤ length words → rated (slice_range words start end) ≡ record { products = products_in (slice_range words start (end - 1)); rate = Some (get_or words (end - 1) []) }
+rated_words words start end begun within =
     rw (part_front words start end begun within, part_last words start end [] begun within) refl
 
 -- the words behind an arrow are the rest of the line

@@ -70,6 +70,8 @@ radius_sound axes count radius reaction two within sound = record {
   radius_above = within.0;
   radius_below = within.1;
   threshold = sound.threshold;
+  rate_order = sound.rate_order;
+  rate_below = sound.rate_below;
   placement = sound.placement;
 }
 
@@ -85,6 +87,8 @@ chance_sound axes count chance fits reaction sound = record {
   radius_above = sound.radius_above;
   radius_below = sound.radius_below;
   threshold = threshold_of-within chance fits;
+  rate_order = tt;
+  rate_below = tt;
   placement = sound.placement;
 }
 
@@ -116,6 +120,8 @@ fresh_sound axes count scheme sound =
       radius_above = tt;
       radius_below = tt;
       threshold = usual_fits (length scheme.reactants);
+      rate_order = sound.rate_order;
+      rate_below = sound.rate_below;
       placement = tt;
     }
 
@@ -208,6 +214,8 @@ offset_keeps dims count product offset reaction given sound =
       radius_above = sound.radius_above;
       radius_below = sound.radius_below;
       threshold = sound.threshold;
+      rate_order = sound.rate_order;
+      rate_below = sound.rate_below;
       placement = placement_counts (length reaction.products) _ many reaction.placement sound.placement;
     }
 
@@ -223,6 +231,8 @@ unbind_keeps dims count distance reaction two within sound = record {
   radius_above = sound.radius_above;
   radius_below = sound.radius_below;
   threshold = sound.threshold;
+  rate_order = sound.rate_order;
+  rate_below = sound.rate_below;
   placement = (two, within.0, within.1);
 }
 
@@ -400,6 +410,8 @@ reaction_wider axes count more fits reaction sound = record {
   radius_above = sound.radius_above;
   radius_below = sound.radius_below;
   threshold = sound.threshold;
+  rate_order = sound.rate_order;
+  rate_below = sound.rate_below;
   placement = sound.placement;
 }
 

@@ -1,5 +1,5 @@
--- How the words of a reaction are arranged: LEFT -> RIGHT, each side species words joined by `+`.
-use Rattle.std.specs.Prelude.{ℕ, ◌+◌, ◌-◌, ◌&&◌, ◌||◌, Bool, false, not, nat_le, List, [], ◌∷◌, length, take, drop, slice_index_or, position, Result, Ok, Err, if◌then◌else◌, codes}
+-- How the words of a reaction are arranged: LEFT -> RIGHT, each side species words joined by `+`, and a rate behind them.
+use Rattle.std.specs.Prelude.{ℕ, ◌+◌, ◌-◌, ◌&&◌, ◌||◌, Bool, false, not, nat_le, List, [], ◌∷◌, length, take, drop, slice_index_or, position, Option, None, Some, Result, Ok, Err, if◌then◌else◌, codes}
 use Rattle.std.specs.Str.{bytes_eq}
 use Rattle.smol_types.specs.declared.fault.Kind.{Kind}
 use Rattle.smol_types.specs.declared.fault.Kind.TheVariants.{BadReaction, NotInProfile}
@@ -57,22 +57,44 @@ left_in words =
     then Err NotInProfile
     else (if is_sum words && nat_le (length words) 3 then Ok (summands words) else Err BadReaction)
 
--- the species words of RIGHT: there may be none
-unfoldable pub right_in : List (List ℕ) → Result (List (List ℕ)) Kind
-right_in words =
-    if is_right words
-    then Ok (if is_nothing words then [] else summands words)
-    else (if is_rated words then Err NotInProfile else Err BadReaction)
+-- the species words of a complete right side: there may be none
+abbrev pub products_in : List (List ℕ) → List (List ℕ)
+products_in words = if is_nothing words then [] else summands words
 
--- the species words of both sides
+-- the species words of RIGHT, and the word of its rate where it has one
+pub record Right : Type 0 where
+  pub products : List (List ℕ)
+  pub rate : Option (List ℕ)
+
+-- a complete right side, and its last word where that is a further one
+abbrev pub unrated : List (List ℕ) → Right
+unrated words = record { products = products_in words; rate = None }
+
+abbrev pub rated : List (List ℕ) → Right
+rated words =
+    let before = length words - 1 in
+    record { products = products_in (take before words); rate = Some (slice_index_or words before []) }
+
+-- RIGHT, with a rate or without
+unfoldable pub right_in : List (List ℕ) → Result Right Kind
+right_in words =
+    if is_right words then Ok (unrated words) else (if is_rated words then Ok (rated words) else Err BadReaction)
+
+-- the species words of both sides, and the word of the rate where there is one
 pub record Sides : Type 0 where
   pub reactants : List (List ℕ)
   pub products : List (List ℕ)
+  pub rate : Option (List ℕ)
 
 -- the two sides of a reaction, which the first arrow parts
 unfoldable pub arrangement_in : List (List ℕ) → Result Sides Kind
 arrangement_in words =
     with_value (there (position is_arrow words) BadReaction) (λ arrow.
     with_value (left_in (take arrow words)) (λ reactants.
-    with_value (right_in (drop (arrow + 1) words)) (λ products.
-    Ok (record { reactants = reactants; products = products }))))
+    with_value (right_in (drop (arrow + 1) words)) (λ right.
+    Ok (record { reactants = reactants; products = right.products; rate = right.rate }))))
+
+-- the word at a place, where there is a place
+abbrev pub word_there : List (List ℕ) → Option ℕ → Option (List ℕ)
+word_there words None = None
+word_there words (Some at) = Some (slice_index_or words at [])

@@ -25,14 +25,16 @@ fresh_reaction scheme = record {
   products = map fresh_product scheme.products;
   radius = None;
   threshold = usual_threshold (length scheme.reactants);
+  rate = scheme.rate;
   placement = Offsets;
 }
 
 abbrev pub with_radius : Micro → Reaction → Reaction
 with_radius radius reaction = record reaction { radius = Some radius }
 
+-- a probability takes the place of a rate
 abbrev pub with_chance : ℕ → Reaction → Reaction
-with_chance chance reaction = record reaction { threshold = threshold_of chance }
+with_chance chance reaction = record reaction { threshold = threshold_of chance; rate = None }
 
 abbrev pub with_offset : Step3 → Product → Product
 with_offset offset product = record product { offset = offset }

@@ -77,12 +77,17 @@ abbrev pub threshold_given : ℕ → Option ℕ → Threshold
 threshold_given order None = usual_threshold order
 threshold_given order (Some chance) = threshold_of chance
 
+-- the rate of a reaction's own line, unless a probability takes its place
+abbrev pub rate_left : Option ℕ → Option ℕ → Option ℕ
+rate_left rate None = rate
+rate_left rate (Some chance) = None
+
 -- a product of a reaction, each by their numbers
 abbrev pub product_made : List ReactionSaid → ℕ → ℕ → ℕ → Product
 product_made said number product species =
     record { species = species; offset = unwrap_or (nearest (offset_said number product) said) no_offset }
 
--- the reaction of a number, by what is said of it
+-- the reaction of a number, by what is said of it. Where it has a rate, its threshold stands for none until all lines are read
 abbrev pub reaction_made : List ReactionSaid → ℕ → Scheme → Reaction
 reaction_made said number scheme = record {
   name = scheme.name;
@@ -91,6 +96,7 @@ reaction_made said number scheme = record {
   products = numbered (product_made said number) 0 scheme.products;
   radius = nearest (radius_said number) said;
   threshold = threshold_given (length scheme.reactants) (nearest (chance_said number) said);
+  rate = rate_left scheme.rate (nearest (chance_said number) said);
   placement = unwrap_or (nearest (unbinding_said number) said) Offsets;
 }
 

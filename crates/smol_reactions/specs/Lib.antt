@@ -6,6 +6,7 @@ pub mod BindingRadius
 pub mod ReactionProbability
 pub mod ProductPlacement
 pub mod Content
+pub mod Rates
 pub mod Order
 pub mod Sound
 pub mod Statements

@@ -5,7 +5,7 @@ use Rattle.smol_types.specs.Limits.{most_reactions}
 use Rattle.smol_line.specs.declared.refusal.Refusal.{Refusal}
 use Rattle.smol_line.specs.LookingBack.{Reads as ReadsLine}
 use Rattle.smol_reactions.specs.declared.reactions.Reactions.{Reactions}
-use Rattle.smol_reactions.specs.Reaction.{reaction_names_of, HasFewProducts}
+use Rattle.smol_reactions.specs.Reaction.{reaction_names_of, HasFewProducts, HasSmallRate}
 use Rattle.smol_reactions.specs.ReactionSaid.{ReactionSaid}
 use Rattle.smol_reactions.specs.Content.{reactions_of, kinds_of, chances_of}
 use Rattle.smol_reactions.specs.Order.{AreOrdered}
@@ -23,6 +23,7 @@ pub record IsKept (table : Reactions) : Type 0 where
   pub kinds : length table.kinds.items ≡ length table.list.items
   pub chances : length table.chances.items ≡ length table.list.items
   pub products : All HasFewProducts table.list.items
+  pub rates : All HasSmallRate table.list.items
   pub few : length table.list.items ≤ most_reactions
 
 -- how the reading of a line ends: it is taken and the table holds what it says too, or its fault is told, or memory ran out

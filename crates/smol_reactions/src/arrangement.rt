@@ -1,7 +1,7 @@
-//! How the words of a reaction are arranged: LEFT -> RIGHT, each side species words joined by `+`.
+//! How the words of a reaction are arranged: LEFT -> RIGHT, each side species words joined by `+`, and a rate behind them.
 ghost use Rattle.std.specs.Prelude.{◌≡◌, ◌≤◌, ◌<◌, ◌-◌, None, Some, Ok, Err, length, position, slice_range, MatchOption, MatchResult, IfOk, IfSome};
 ghost use Rattle.smol_text.specs.Reading.{words_of};
-ghost use Rattle.smol_reactions.specs.Arrangement.{Sides, is_arrow, is_nothing, is_plus, is_right, is_rated, is_sum, is_zero, left_in, right_in, stands_for_rate, stands_for_species, summands};
+ghost use Rattle.smol_reactions.specs.Arrangement.{Right as TheRight, Sides, is_arrow, is_nothing, is_plus, is_right, is_rated, is_sum, is_zero, left_in, products_in, rated, right_in, stands_for_rate, stands_for_species, summands, word_there};
 ghost use Rattle.smol_reactions.specs.Arrangement.{arrangement_in};
 ghost use Rattle.smol_reactions.specs.Reaction.{arranged_words};
 
@@ -16,11 +16,18 @@ pub struct Side {
     pub end: usize,
 }
 
-/// The two sides of a reaction. A side without species is empty.
+/// The right side of a reaction. Without species it is empty. The rate is a place on the line, if there is one.
+#[derive(Clone, Copy, Debug, PartialEq, Eq)]
+pub struct Right {
+    pub products: Side,
+    pub rate: Option<usize>,
+}
+
+/// The two sides of a reaction.
 #[derive(Clone, Copy, Debug, PartialEq, Eq)]
 pub struct Arrangement {
     pub left: Side,
-    pub right: Side,
+    pub right: Right,
 }
 
 fn is_arrow(word: &[u8]) -> bool
@@ -126,27 +133,71 @@ fn check_left(line: &StatedLine<'_>, side: Side) -> Result<(), Kind>
     }
 }
 
-// The words of RIGHT, where the word `0` stands for none.
-#[tactic(auto, unfolding(crate::specs::Arrangement::right_in), using(crate::proofs::Sides::summands_none))]
-fn right_in(line: &StatedLine<'_>, side: Side) -> Result<Side, Kind>
+// The species words of a complete right side, where the word `0` stands for none.
+#[tactic(auto, using(crate::proofs::Sides::summands_none))]
+fn products_in(line: &StatedLine<'_>, side: Side) -> Side
+    requires ordered { side.start ≤ side.end }
+    requires within { side.end ≤ length (words_of line.now) }
+    ensures words { summands (slice_range (words_of line.now) result.start result.end)
+        ≡ products_in (slice_range (words_of line.now) side.start side.end) }
+    ensures ordered { result.start ≤ result.end }
+    ensures within { result.end ≤ length (words_of line.now) }
+{
+    if is_nothing(line, side) {
+        Side {
+            start: side.end,
+            end: side.end,
+        }
+    } else {
+        side
+    }
+}
+
+// A complete right side and its last word, which is a rate.
+#[tactic(auto, using(crate::proofs::Sides::rated_words))]
+fn rated(line: &StatedLine<'_>, side: Side) -> Right
+    requires some { side.start < side.end }
+    requires within { side.end ≤ length (words_of line.now) }
+    ensures products { summands (slice_range (words_of line.now) result.products.start result.products.end)
+        ≡ (rated (slice_range (words_of line.now) side.start side.end)).products }
+    ensures rate { word_there (words_of line.now) result.rate ≡ (rated (slice_range (words_of line.now) side.start side.end)).rate }
+    ensures ordered { result.products.start ≤ result.products.end }
+    ensures end { result.products.end ≤ length (words_of line.now) }
+    ensures place { IfSome result.rate (λ at. at < length (words_of line.now)) }
+{
+    let last = side.end - 1;
+    let before = Side {
+        start: side.start,
+        end: last,
+    };
+    Right {
+        products: products_in(line, before),
+        rate: Some(last),
+    }
+}
+
+// The parts of RIGHT, with a rate or without.
+#[tactic(auto, unfolding(crate::specs::Arrangement::right_in))]
+fn right_in(line: &StatedLine<'_>, side: Side) -> Result<Right, Kind>
     requires ordered { side.start ≤ side.end }
     requires within { side.end ≤ length (words_of line.now) }
     ensures rule { MatchResult result
-        (λ right. right_in (slice_range (words_of line.now) side.start side.end)
-        ≡ Ok (summands (slice_range (words_of line.now) right.start right.end)))
+        (λ right. right_in (slice_range (words_of line.now) side.start side.end) ≡ Ok (record {
+          products = summands (slice_range (words_of line.now) right.products.start right.products.end);
+          rate = word_there (words_of line.now) right.rate;
+        }))
         (λ kind. right_in (slice_range (words_of line.now) side.start side.end) ≡ Err kind) }
-    ensures ordered { IfOk result (λ right. right.start ≤ right.end) }
-    ensures within { IfOk result (λ right. right.end ≤ length (words_of line.now)) }
+    ensures ordered { IfOk result (λ right. right.products.start ≤ right.products.end) }
+    ensures within { IfOk result (λ right. right.products.end ≤ length (words_of line.now)) }
+    ensures place { IfOk result (λ right. IfSome right.rate (λ at. at < length (words_of line.now))) }
 {
-    if is_nothing(line, side) {
-        Ok(Side {
-            start: side.end,
-            end: side.end,
+    if is_right(line, side) {
+        Ok(Right {
+            products: products_in(line, side),
+            rate: None,
         })
-    } else if is_sum(line, side) {
-        Ok(side)
     } else if is_rated(line, side) {
-        Err(Kind::NotInProfile)
+        Ok(rated(line, side))
     } else {
         Err(Kind::BadReaction)
     }
@@ -177,13 +228,15 @@ pub fn arrangement_in(line: &StatedLine<'_>) -> Result<Arrangement, Kind>
     ensures rule { MatchResult result
         (λ arranged. arrangement_in (arranged_words line.now) ≡ Ok (record {
           reactants = summands (slice_range (words_of line.now) arranged.left.start arranged.left.end);
-          products = summands (slice_range (words_of line.now) arranged.right.start arranged.right.end);
+          products = summands (slice_range (words_of line.now) arranged.right.products.start arranged.right.products.end);
+          rate = word_there (words_of line.now) arranged.right.rate;
         }))
         (λ kind. arrangement_in (arranged_words line.now) ≡ Err kind) }
     ensures left_ordered { IfOk result (λ arranged. arranged.left.start ≤ arranged.left.end) }
     ensures left_within { IfOk result (λ arranged. arranged.left.end ≤ length (words_of line.now)) }
-    ensures right_ordered { IfOk result (λ arranged. arranged.right.start ≤ arranged.right.end) }
-    ensures right_within { IfOk result (λ arranged. arranged.right.end ≤ length (words_of line.now)) }
+    ensures right_ordered { IfOk result (λ arranged. arranged.right.products.start ≤ arranged.right.products.end) }
+    ensures right_within { IfOk result (λ arranged. arranged.right.products.end ≤ length (words_of line.now)) }
+    ensures rate_within { IfOk result (λ arranged. IfSome arranged.right.rate (λ at. at < length (words_of line.now))) }
 {
     let end = line.len();
     let Some(arrow) = arrow_of(line) else {

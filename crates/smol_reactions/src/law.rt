@@ -1,11 +1,13 @@
 //! Laws of what lines say of reactions. The functions do nothing: each law is a contract.
-ghost use Rattle.std.specs.Prelude.{◌≡◌, ◌≤◌, ◌∷◌, ℕ, List, Option, Ok, length, sum_by};
+ghost use Rattle.std.specs.Prelude.{◌≡◌, ◌≤◌, ◌∷◌, ℕ, All, List, Option, Ok, length, sum_by, true};
 ghost use Rattle.smol_text.specs.Reading.{Stated};
+ghost use Rattle.smol_types.specs.declared.reaction.Reaction.{Reaction};
 ghost use Rattle.smol_types.specs.Limits.{certain};
 ghost use Rattle.smol_types.specs.Reactions.{share_of};
 ghost use Rattle.smol_line.specs.Probability.{whole_chance};
 ghost use Rattle.smol_reactions.specs.ReactionSaid.{ReactionSaid};
-ghost use Rattle.smol_reactions.specs.Content.{chance_sum, chances_of, reactions_of};
+ghost use Rattle.smol_reactions.specs.Content.{are_shared, chance_sum, chances_of, reactions_of};
+ghost use Rattle.smol_reactions.specs.Rates.{HasRate, all_rated, are_enough};
 ghost use Rattle.smol_reactions.specs.Sound.{AreReactions};
 ghost use Rattle.smol_reactions.specs.Statements.{binding_radius_said, product_placement_said, reaction_probability_said, reaction_said};
 
@@ -14,6 +16,14 @@ ghost use Rattle.smol_reactions.specs.Statements.{binding_radius_said, product_p
 pub fn probabilities_share_the_words()
     ensures { (species : ℕ) (said : List ReactionSaid) → chance_sum species (reactions_of said) (chances_of said) ≤ whole_chance
         → sum_by (share_of species) (reactions_of said) ≤ certain }
+{}
+
+/// Where each first-order reaction has a rate, these reactions share the random words, whatever the rates and the time of a step, and
+/// no probability is given that could be too much.
+pub fn rates_share_the_words()
+    ensures words { (count step : ℕ) (reactions : List Reaction) → All HasRate reactions → are_enough count (all_rated step reactions) ≡ true }
+    ensures chances { (count step : ℕ) (said : List ReactionSaid) → All HasRate (reactions_of said)
+        → are_shared count (all_rated step (reactions_of said)) (chances_of said) ≡ true }
 {}
 
 /// What lines without a fault say of reactions is sound: a line more keeps it so.

@@ -1,12 +1,14 @@
 //! What a reader keeps of reactions.
-ghost use Rattle.std.specs.Prelude.{◌≡◌, ◌≤◌, [], length, map, IfOk};
+ghost use Rattle.std.specs.Prelude.{◌≡◌, ◌≤◌, ◌<ℤ◌, pos, unsigned_abs, [], length, map, IfOk};
 ghost use Rattle.smol_reactions.specs.Numbered.{changed};
-ghost use Rattle.smol_types.specs.Limits.{most_reactions};
+ghost use Rattle.smol_types.specs.Limits.{latest, most_reactions};
 ghost use Rattle.smol_types.specs.Reactions.{reacts_alone};
 ghost use Rattle.smol_reactions.specs.Content.{are_shared, chance_alone, chance_sum, usual_threshold};
+ghost use Rattle.smol_reactions.specs.Rates.{all_rated};
 ghost use Rattle.smol_reactions.specs.Changes.{fresh_product, fresh_reaction, with_chance, with_offset, with_placement, with_radius};
 
 use crate::product_placement::{PlacementKind, ProductPlacement, placement_kind_of};
+use crate::rates::give_thresholds;
 use crate::scheme::Scheme;
 use crate::{binding_radius, product_placement, reaction, reaction_probability};
 use smol_geom::Step3;
@@ -76,6 +78,7 @@ fn fresh_reaction(alloc: Global, scheme: Scheme) -> Result<Reaction, AllocError>
         products,
         radius: None,
         threshold: usual_threshold(order),
+        rate: scheme.rate,
         placement: Placement::Offsets,
     })
 }
@@ -90,13 +93,21 @@ fn set_radius(list: &mut Vec<Reaction>, number: usize, radius: Micro)
     }
 }
 
+// Gives a reaction a probability in billionths, in place of its rate.
+fn give_chance(reaction: &mut Reaction, chance: u32)
+    ensures { reaction.new ≡ with_chance chance reaction.old }
+{
+    reaction.threshold = threshold_of(chance);
+    reaction.rate = None;
+}
+
 // Gives the reaction of this number, if there is one, a probability in billionths.
 #[tactic(auto, using(crate::proofs::Lists::changed_past))]
 fn set_chance(list: &mut Vec<Reaction>, number: usize, chance: u32)
     ensures { list.new.items ≡ changed (with_chance chance) number list.old.items }
 {
     if number < list.len() {
-        list[number].threshold = threshold_of(chance);
+        give_chance(&mut list[number], chance);
     }
 }
 
@@ -160,7 +171,7 @@ fn keep_chance(chances: &mut Vec<Option<u32>>, number: usize, chance: u32)
 }
 
 // Whether the species is the one reactant.
-fn reacts_alone(species: u16, reactants: &[u16]) -> bool
+pub fn reacts_alone(species: u16, reactants: &[u16]) -> bool
     ensures { result ≡ reacts_alone species reactants.now }
 {
     match reactants {
@@ -301,11 +312,17 @@ impl Reactions {
         Ok(())
     }
 
-    /// The reactions as the lines tell them. Takes no memory.
-    pub fn into_list(self) -> Items<Reaction>
-        ensures { result ≡ self.list.items }
+    /// The reactions as the lines tell them, those with a rate with the threshold of it, where a step takes so many nanos. Takes
+    /// no memory.
+    pub fn into_list(self, step: i64) -> Items<Reaction>
+        requires kept { IsKept self }
+        requires step { unsigned_abs step ≤ latest }
+        requires step_above { pos 0 <ℤ step }
+        ensures { result ≡ all_rated (unsigned_abs step) self.list.items }
     {
-        Items::from_vec(self.list)
+        let mut list = self.list;
+        give_thresholds(&mut list, step);
+        Items::from_vec(list)
     }
 
     /// How likely the reactions of which the species is the one reactant are together, in billionths.

@@ -8,4 +8,6 @@ pub struct Scheme {
     pub reactants: Items<u16>,
     /// The numbers of the products' species.
     pub products: Items<u16>,
+    /// The rate, in billionths per unit of time, if the line gives one.
+    pub rate: Option<u64>,
 }

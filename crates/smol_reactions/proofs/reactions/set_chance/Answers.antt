@@ -6,6 +6,6 @@ use Rattle.smol_reactions.proofs.reactions.set_chance.Goals as goal
 pub returns-then-number-len : goal.returns-then-number-len
 returns-then-number-len c =
     let within : c.args.number < length c.args.list.now.items = search rules in
-    rw c.threshold_of.ensures
+    rw c.give_chance.ensures
     (ap (λ thing. set c.args.list.now.items c.args.number (with_chance c.args.chance thing)) c.index_mut.ensures.value
     ∙ sym (changed_is (with_chance c.args.chance) c.args.number c.args.list.now.items c.index_mut.result.now within))

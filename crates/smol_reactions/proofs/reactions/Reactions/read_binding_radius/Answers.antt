@@ -15,12 +15,13 @@ returns-clause-kept c =
     let old = c.requires.kept in
     let radius = c.in_ok-number.radius in
     let is = c.set_radius.ensures in
-    let like = alike (with_radius radius) c.from.result c.args.self.now.list.items c.set_radius.new.list.items (record { name = λ reaction. refl; products = λ reaction few. few }) is old.products in
+    let like = alike (with_radius radius) c.from.result c.args.self.now.list.items c.set_radius.new.list.items (record { name = λ reaction. refl; products = λ reaction few. few; rates = λ reaction small. small }) is old.products old.rates in
     record {
       names = old.names ∙ sym like.names;
       kinds = old.kinds ∙ sym like.count;
       chances = old.chances ∙ sym like.count;
       products = like.products;
+      rates = like.rates;
       few = subst (λ (n : ℕ). n ≤ most_reactions) (sym like.count) old.few;
     }
 

@@ -15,12 +15,13 @@ pub returns-clause-kept : goal.returns-clause-kept
 returns-clause-kept c =
     let old = c.requires.kept in
     let placement = c.in_ok-number.placement in
-    let like = alike (with_placement placement) c.from-number.result c.args.self.now.list.items c.set_placement.new.list.items (placed_mild placement) c.set_placement.ensures old.products in
+    let like = alike (with_placement placement) c.from-number.result c.args.self.now.list.items c.set_placement.new.list.items (placed_mild placement) c.set_placement.ensures old.products old.rates in
     record {
       names = old.names ∙ sym like.names;
       kinds = ap length c.set_kind.ensures ∙ length-changed (λ _. Some c.placement_kind_of.result) c.from-number.result c.args.self.now.kinds.items ∙ old.kinds ∙ sym like.count;
       chances = old.chances ∙ sym like.count;
       products = like.products;
+      rates = like.rates;
       few = subst (λ (n : ℕ). n ≤ most_reactions) (sym like.count) old.few;
     }
 

@@ -16,12 +16,13 @@ returns-clause-kept c =
     let old = c.requires.kept in
     let chance = c.in_ok-number.chance in
     let is = c.set_chance.ensures in
-    let like = alike (with_chance chance) c.from.result c.args.self.now.list.items c.set_chance.new.list.items (record { name = λ reaction. refl; products = λ reaction few. few }) is old.products in
+    let like = alike (with_chance chance) c.from.result c.args.self.now.list.items c.set_chance.new.list.items (record { name = λ reaction. refl; products = λ reaction few. few; rates = λ reaction small. tt }) is old.products old.rates in
     record {
       names = old.names ∙ sym like.names;
       kinds = old.kinds ∙ sym like.count;
       chances = ap length c.keep_chance.ensures ∙ length-changed (λ _. Some chance) c.from-2.result c.args.self.now.chances.items ∙ old.chances ∙ sym like.count;
       products = like.products;
+      rates = like.rates;
       few = subst (λ (n : ℕ). n ≤ most_reactions) (sym like.count) old.few;
     }
 

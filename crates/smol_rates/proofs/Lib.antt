@@ -1,0 +1,3 @@
+pub mod SeriesLemmas
+pub mod RatesLemmas
+pub mod Sharing
