@@ -4,4 +4,5 @@ pub mod OutputNames
 pub mod Commanded
 pub mod Values
 pub mod Between
+pub mod Numbered
 pub mod Sound

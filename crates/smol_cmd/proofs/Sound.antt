@@ -34,11 +34,8 @@ use Rattle.smol_cmd.specs.Act.{act_in, act_of, count_within_in, echo_in, echo_pa
 use Rattle.smol_cmd.specs.Test.{asked_in, condition_in, condition_words, test_in, test_of}
 use Rattle.smol_cmd.specs.Cmd.{cmd_in, command_in, command_of}
 use Rattle.smol_cmd.proofs.Values.{outlet_is, probability_is, when_is, who_is}
+use Rattle.smol_cmd.proofs.Numbered.{Does, count_space_is, mean_square_is, moments_are, radial_is}
 use Rattle.smol_cmd.proofs.Between.{place_is}
-
--- an act by what is known
-abbrev Does : Known → Act → Type 0
-Does known does = IsAct (length known.species) (length known.compartments) (length known.outputs) (walls_of known.axes) does
 
 print_is : (known : Known) (line : Stated) (at out : ℕ) → print_in known line at ≡ Ok out → IsOutlet (length known.outputs) out
 unfolding print_in
@@ -133,6 +130,10 @@ act_by verb.List known dims line at found sound walled is =
     let out = valued (print_in known line at) _ found is in
     subst (Does known) (same_value (act.List out.0) found out.2) (print_is known line at out.0 out.1)
 act_by verb.Positions known dims line at found sound walled is = positions_is known line at found is
+act_by verb.CountSpace known dims line at found sound walled is = count_space_is known line at found sound is
+act_by verb.Moments known dims line at found sound walled is = moments_are known line at found is
+act_by verb.MeanSquare known dims line at found sound walled is = mean_square_is known line at found is
+act_by verb.Radial known dims line at found sound walled is = radial_is known line at found is
 act_by verb.Echo known dims line at found sound walled is = echo_is known line at found is
 act_by verb.Kill known dims line at found sound walled is = kill_is known line at found is
 act_by verb.KillProb known dims line at found sound walled is = kill_prob_is known line at found is
@@ -247,6 +248,20 @@ act_stays a b c a_new b_new c_new walls (act.List out) more_a more_b more_c is =
 act_stays a b c a_new b_new c_new walls (act.Positions who out) more_a more_b more_c is =
     let second = is.1 in
     (species_stay a a_new who more_a is.0, omega arith)
+act_stays a b c a_new b_new c_new walls (act.CountSpace who axis low high bins out) more_a more_b more_c is =
+    let outlet = is.4 in
+    (species_stay a a_new who more_a is.0, is.1, is.2, is.3, omega arith)
+act_stays a b c a_new b_new c_new walls (act.Moments who out) more_a more_b more_c is =
+    let outlet = is.1 in
+    (species_stay a a_new who more_a is.0, omega arith)
+act_stays a b c a_new b_new c_new walls (act.MeanSquare who at out) more_a more_b more_c is =
+    let outlet = is.2 in
+    (species_stay a a_new who more_a is.0, is.1, omega arith)
+act_stays a b c a_new b_new c_new walls (act.Radial first second radius bins out) more_a more_b more_c is =
+    let one = is.0 in
+    let other = is.1 in
+    let outlet = is.5 in
+    (omega arith, omega arith, is.2, is.3, is.4, omega arith)
 act_stays a b c a_new b_new c_new walls (act.Echo out text) more_a more_b more_c is = omega arith
 act_stays a b c a_new b_new c_new walls (act.Kill who) more_a more_b more_c is = species_stay a a_new who more_a is
 act_stays a b c a_new b_new c_new walls (act.KillProb who p) more_a more_b more_c is = (species_stay a a_new who more_a is.0, is.1)

@@ -22,6 +22,18 @@ use Rattle.smol_cmd.specs.Who.{who_in}
 use Rattle.smol_cmd.specs.Probability.{probability_in}
 use Rattle.smol_cmd.specs.Outlet.{outlet_in}
 use Rattle.smol_cmd.specs.Echo.{rest_behind, quoted_in, spelled}
+use Rattle.smol_cmd.specs.Statistics.{count_space_in, mean_square_in, moments_in, radial_in}
+
+-- what the word COMMAND says is to be done, where it is a word for numbers over the molecules
+unfoldable pub statistic_in : List ℕ → Result Verb Kind
+statistic_in word =
+    if bytes_eq word (codes "molcountspace")
+    then Ok verb.CountSpace
+    else (if bytes_eq word (codes "molmoments")
+    then Ok verb.Moments
+    else (if bytes_eq word (codes "meansqrdist")
+    then Ok verb.MeanSquare
+    else (if bytes_eq word (codes "radialcount") then Ok verb.Radial else Err UnknownCommand)))
 
 -- what the word COMMAND says is to be done, where it is a word for printing
 unfoldable pub printing_in : List ℕ → Result Verb Kind
@@ -36,7 +48,7 @@ printing_in word =
     then Ok verb.List
     else (if bytes_eq word (codes "molpos")
     then Ok verb.Positions
-    else (if bytes_eq word (codes "echo") then Ok verb.Echo else Err UnknownCommand)))))
+    else (if bytes_eq word (codes "echo") then Ok verb.Echo else statistic_in word)))))
 
 -- what the word COMMAND says is to be done
 unfoldable pub verb_in : List ℕ → Result Verb Kind
@@ -130,6 +142,10 @@ act_of verb.Count known line at = with_value (print_in known line at) (λ out. O
 act_of verb.CountIn known line at = count_within_in known line at
 act_of verb.List known line at = with_value (print_in known line at) (λ out. Ok (act.List out))
 act_of verb.Positions known line at = positions_in known line at
+act_of verb.CountSpace known line at = count_space_in known line at
+act_of verb.Moments known line at = moments_in known line at
+act_of verb.MeanSquare known line at = mean_square_in known line at
+act_of verb.Radial known line at = radial_in known line at
 act_of verb.Echo known line at = echo_in known line at
 act_of verb.Kill known line at = kill_in known line at
 act_of verb.KillProb known line at = kill_prob_in known line at

@@ -5,6 +5,7 @@ pub mod Who
 pub mod Probability
 pub mod Outlet
 pub mod Echo
+pub mod Statistics
 pub mod Act
 pub mod Test
 pub mod Cmd

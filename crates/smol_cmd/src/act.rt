@@ -12,6 +12,7 @@ use crate::known::Known;
 use crate::outlet::outlet_in;
 use crate::places::{word_behind, words_from};
 use crate::probability::probability_in;
+use crate::statistics::{count_space_in, mean_square_in, moments_in, radial_in};
 use crate::verb::{Verb, verb_in};
 use crate::who::who_in;
 use smol_geom::Place;
@@ -235,6 +236,10 @@ fn act_of(
             out: print_in(known, line, at)?,
         }),
         Verb::Positions => positions_in(alloc, known, line, at),
+        Verb::CountSpace => count_space_in(alloc, known, line, at),
+        Verb::Moments => moments_in(alloc, known, line, at),
+        Verb::MeanSquare => mean_square_in(alloc, known, line, at),
+        Verb::Radial => Ok(radial_in(known, line, at)?),
         Verb::Echo => echo_in(alloc, known, line, at),
         Verb::Kill => kill_in(alloc, known, line, at),
         Verb::KillProb => kill_prob_in(alloc, known, line, at),

@@ -11,6 +11,7 @@ mod outlet;
 mod output_files;
 mod places;
 mod probability;
+mod statistics;
 #[cfg(test)]
 mod tests;
 mod times;

@@ -1,6 +1,6 @@
 //! The word COMMAND of a command that is no test.
 ghost use Rattle.std.specs.Prelude.{◌≡◌};
-ghost use Rattle.smol_cmd.specs.Act.{printing_in, verb_in};
+ghost use Rattle.smol_cmd.specs.Act.{printing_in, statistic_in, verb_in};
 
 use smol_line::spells;
 use smol_types::Kind;
@@ -13,12 +13,34 @@ pub enum Verb {
     CountIn,
     List,
     Positions,
+    CountSpace,
+    Moments,
+    MeanSquare,
+    Radial,
     Echo,
     Kill,
     KillProb,
     Replace,
     PointSource,
     Stop,
+}
+
+// The same of a word for numbers over the molecules.
+#[tactic(auto, unfolding(crate::specs::Act::statistic_in))]
+fn statistic_in(word: &[u8]) -> Result<Verb, Kind>
+    ensures { result ≡ statistic_in word.now }
+{
+    if spells(word, "molcountspace") {
+        Ok(Verb::CountSpace)
+    } else if spells(word, "molmoments") {
+        Ok(Verb::Moments)
+    } else if spells(word, "meansqrdist") {
+        Ok(Verb::MeanSquare)
+    } else if spells(word, "radialcount") {
+        Ok(Verb::Radial)
+    } else {
+        Err(Kind::UnknownCommand)
+    }
 }
 
 // The same of a word for printing.
@@ -39,7 +61,7 @@ fn printing_in(word: &[u8]) -> Result<Verb, Kind>
     } else if spells(word, "echo") {
         Ok(Verb::Echo)
     } else {
-        Err(Kind::UnknownCommand)
+        statistic_in(word)
     }
 }
 

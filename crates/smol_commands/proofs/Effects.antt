@@ -3,6 +3,7 @@ use Rattle.std.proofs.Common.{◌≡◌, ℕ, ◌^◌, ◌≤◌, ◌<◌, Bool,
 use Rattle.std.specs.List.{list_all, slice_get}
 use Rattle.std.specs.Option.{option_map_or}
 use Rattle.std.proofs.lemmas.Option.{slice_get_read, slice_get_within, get_or_from_slice_get}
+use Rattle.smol_geom.specs.Axes.{IsWithin}
 use Rattle.smol_types.specs.declared.command.Command.{Command}
 use Rattle.smol_meaning.specs.Commands.{effect_of, holds_of, performed}
 use Rattle.std.proofs.lemmas.List.{append-nil}
@@ -51,6 +52,18 @@ mols_within draft state sound fits i d within =
     place_within_more (reach state.step) (2 ^ 57) place (omega arith)
     (coordinates_within (reach state.step) draft.dims place (omega arith) (fits.axes i d within) (fits.places i d within))
 
+-- and no farther from the origin than their sums ask for
+pub mols_near : (draft : Draft) (state : State) → IsSound draft → Fits draft state → All (λ (mol : Mol). IsWithin (2 ^ 57) mol.place.0) state.mols
+mols_near draft state sound fits i d within = (mols_within draft state sound fits i d within).size
+
+pub mols_nearer : (draft : Draft) (state : State) → IsSound draft → Fits draft state → All (λ (mol : Mol). IsWithin (2 ^ 58) mol.place.0) state.mols
+mols_nearer draft state sound fits i d within =
+    let near = mols_near draft state sound fits i d within in
+    let x = near.0 in
+    let y = near.1 in
+    let z = near.2 in
+    (omega arith, omega arith, omega arith)
+
 pub few_molecules : (draft : Draft) (state : State) → IsSound draft → Fits draft state → length state.mols ≤ most_molecules
 few_molecules draft state sound fits = let count = fits.count in let most = sound.max_below in omega arith
 
@@ -95,4 +108,4 @@ left_serials draft seed c state left old new (Ok flow) sound fits room performs 
     omega (arith, next, ap (λ (state : State). state.next) performs.state)
 left_serials draft seed c state left old new (Err e) sound fits room performs = tt
 
-pub ruleset performs = (performs_printed, performs_moved, performs_stopped, performs_idle, mols_within, few_molecules)
+pub ruleset performs = (performs_printed, performs_moved, performs_stopped, performs_idle, mols_within, mols_near, mols_nearer, few_molecules)

@@ -1,6 +1,6 @@
 mod Times
 mod Marks
-mod SpeciesCounts
+pub mod SpeciesCounts
 mod Ranks
 mod Added
 mod Spaced

@@ -13,7 +13,7 @@ use Rattle.smol_meaning.specs.Lines.{number_of, counts_from}
 pub count_is_small : (mols : List Mol) (number : ℕ) → number_of mols number ≤ length mols
 count_is_small mols number = count_by-le-length (λ (mol : Mol). mol.species == number) mols
 
-length_counts : (mols : List Mol) (number : ℕ) (species : List Species) → length (counts_from mols number species) ≡ length species
+pub length_counts : (mols : List Mol) (number : ℕ) (species : List Species) → length (counts_from mols number species) ≡ length species
 length_counts mols number [] = refl
 length_counts mols number (one ∷ species) = ap suc (length_counts mols (number + 1) species)
 

@@ -16,6 +16,9 @@ use crate::moves::{add_molecules, kill, kill_hit, replace_hit};
 use crate::printing::{
     print_counts, print_counts_inside, print_header, print_list, print_positions, print_text,
 };
+use crate::statistics::{
+    Around, Space, print_mean_square, print_moments, print_radial, print_space,
+};
 use smol_print::Pages;
 use smol_streams::Streams;
 use smol_types::{Act, Config, State};
@@ -108,6 +111,77 @@ fn act(
             *outlet,
             out,
         )?,
+        Act::CountSpace {
+            who,
+            axis,
+            low,
+            high,
+            bins,
+            out: outlet,
+        } => {
+            let space = Space {
+                who: who.as_slice(),
+                axis: *axis,
+                low: *low,
+                high: *high,
+                bins: *bins,
+            };
+            print_space(
+                alloc,
+                config,
+                state.step,
+                state.mols.as_slice(),
+                &space,
+                *outlet,
+                out,
+            )?;
+        }
+        Act::Moments { who, out: outlet } => print_moments(
+            alloc,
+            config,
+            state.step,
+            state.mols.as_slice(),
+            who.as_slice(),
+            *outlet,
+            out,
+        )?,
+        Act::MeanSquare {
+            who,
+            at,
+            out: outlet,
+        } => print_mean_square(
+            alloc,
+            config,
+            state.step,
+            state.mols.as_slice(),
+            who.as_slice(),
+            at,
+            *outlet,
+            out,
+        )?,
+        Act::Radial {
+            first,
+            second,
+            radius,
+            bins,
+            out: outlet,
+        } => {
+            let around = Around {
+                first: *first,
+                second: *second,
+                radius: *radius,
+                shells: *bins,
+            };
+            print_radial(
+                alloc,
+                config,
+                state.step,
+                state.mols.as_slice(),
+                &around,
+                *outlet,
+                out,
+            )?;
+        }
         Act::Echo { out: outlet, text } => print_text(text.as_slice(), *outlet, out)?,
         Act::Kill { who } => kill(alloc, who.as_slice(), state),
         Act::KillProb { who, p } => {

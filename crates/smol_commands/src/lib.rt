@@ -9,9 +9,11 @@ mod hits;
 mod meant;
 mod moves;
 mod printing;
+mod statistics;
 mod timing;
 
 pub use acting::perform;
 pub use command_fault::CommandFault;
+pub use counting::counts_of;
 pub use flow::Flow;
 pub use timing::due;

@@ -1,15 +1,22 @@
 //! Which molecules a command means, and the tests before it.
-ghost use Rattle.std.specs.Prelude.{◌≡◌};
-ghost use Rattle.std.specs.List.{list_all};
+ghost use Rattle.std.specs.Prelude.{◌≡◌, nat_eq};
+ghost use Rattle.std.specs.List.{list_all, list_any};
 ghost use Rattle.smol_meaning.specs.Commands.{holds_of, is_meant, number_meant};
 
 use smol_types::{Mol, Test};
+
+/// Whether a species is one of these.
+pub fn is_among(who: &[u16], species: u16) -> bool
+    ensures { result ≡ list_any (nat_eq species) who.now }
+{
+    who.iter().any(|one| species == *one)
+}
 
 /// Whether a molecule is of one of these species.
 pub fn is_meant(who: &[u16], mol: &Mol) -> bool
     ensures { result ≡ is_meant who.now mol.now }
 {
-    who.iter().any(|species| mol.species == *species)
+    is_among(who, mol.species)
 }
 
 fn number_meant(who: &[u16], mols: &[Mol]) -> usize

@@ -75,8 +75,8 @@ pub fn print_counts_inside(
     print_line(config, time, &counts, outlet, out)
 }
 
-// Prints the line of a time and counts.
-fn print_line(
+/// Prints the line of a time and counts.
+pub fn print_line(
     config: &Config,
     time: i64,
     counts: &[u64],

@@ -1,11 +1,11 @@
 //! The lines that commands print. A line is added to its page whole or not at all.
 ghost use Rattle.std.specs.Prelude.{◌≡◌, ◌++◌, ◌<◌, OnErr, OnOk, codes, drop, length};
-ghost use Rattle.smol_meaning.specs.Lines.{count_line, header_line, mol_line, name_of, place_text};
+ghost use Rattle.smol_meaning.specs.Lines.{count_line, header_line, mol_line, name_of, number_line, place_text};
 ghost use Rattle.smol_print.specs.Page.{BeginsWith};
 
 use crate::texts::{
-    add_coordinates, add_first_coordinates, add_names, add_number, add_numbers, add_time, end_line,
-    whole_or_nothing,
+    add_coordinates, add_first_coordinates, add_names, add_number, add_numbers, add_signed_numbers,
+    add_time, end_line, whole_or_nothing,
 };
 use smol_geom::Place;
 use smol_types::{Config, Mol};
@@ -53,6 +53,26 @@ fn add_counts(time: i64, counts: &[u64], page: &mut Vec<u8>) -> Result<(), Alloc
 {
     add_time(page, time)?;
     add_numbers(page, counts)?;
+    end_line(page)
+}
+
+/// Adds a line of numbers behind a time in nanos.
+pub fn line_of_numbers(time: i64, values: &[i128], page: &mut Vec<u8>) -> Result<(), AllocError>
+    ensures ok { OnOk result (page.new.items ≡ page.old.items ++ number_line time values.now) }
+    ensures err { OnErr result (page.new.items ≡ page.old.items) }
+{
+    let length = page.len();
+    let added = add_values(time, values, page);
+    whole_or_nothing(page, length, added)
+}
+
+#[tactic(auto, unfolding(smol_meaning::specs::Lines::number_line))]
+fn add_values(time: i64, values: &[i128], page: &mut Vec<u8>) -> Result<(), AllocError>
+    ensures ok { OnOk result (page.new.items ≡ page.old.items ++ number_line time values.now) }
+    ensures err { OnErr result (BeginsWith page.old.items page.new.items) }
+{
+    add_time(page, time)?;
+    add_signed_numbers(page, values)?;
     end_line(page)
 }
 

@@ -1,8 +1,9 @@
 //! Texts that are added to a page. Where one could not be added, the page begins with what it had, and may have a part of the text.
 ghost use Rattle.std.specs.Prelude.{◌≡◌, ◌++◌, OnErr, OnOk, codes, decimal, drop, flat_map, take};
+ghost use Rattle.std.specs.Fmt.{signed_decimal};
 ghost use Rattle.smol_num.specs.Print.{decimal_text};
 ghost use Rattle.smol_types.specs.declared.species.Species.{Species as TheSpecies};
-ghost use Rattle.smol_meaning.specs.Lines.{coordinates_text, micros_at, spaced};
+ghost use Rattle.smol_meaning.specs.Lines.{coordinates_text, micros_at, spaced, spaced_signed};
 ghost use Rattle.smol_print.specs.Page.{BeginsWith};
 
 use itoa::Buffer;
@@ -42,6 +43,30 @@ pub fn add_numbers(page: &mut Vec<u8>, numbers: &[u64]) -> Result<(), AllocError
 #[tactic(auto, using(crate::proofs::Growing::growing))]
 pub fn add_number(page: &mut Vec<u8>, number: u64) -> Result<(), AllocError>
     ensures ok { OnOk result (page.new.items ≡ page.old.items ++ (codes " " ++ decimal number)) }
+    ensures err { OnErr result (BeginsWith page.old.items page.new.items) }
+{
+    let mut digits = Buffer::new();
+    page.extend_from_slice(b" ")?;
+    page.extend_from_slice(digits.format(number).as_bytes())?;
+    Ok(())
+}
+
+/// Adds numbers with a sign, each behind a space.
+#[tactic(auto, using(crate::proofs::Growing::growing))]
+pub fn add_signed_numbers(page: &mut Vec<u8>, numbers: &[i128]) -> Result<(), AllocError>
+    ensures ok { OnOk result (page.new.items ≡ page.old.items ++ spaced_signed numbers.now) }
+    ensures err { OnErr result (BeginsWith page.old.items page.new.items) }
+{
+    for number in numbers {
+        add_signed_number(page, *number)?;
+    }
+    Ok(())
+}
+
+// Adds a number with a sign behind a space.
+#[tactic(auto, using(crate::proofs::Growing::growing))]
+fn add_signed_number(page: &mut Vec<u8>, number: i128) -> Result<(), AllocError>
+    ensures ok { OnOk result (page.new.items ≡ page.old.items ++ (codes " " ++ signed_decimal number)) }
     ensures err { OnErr result (BeginsWith page.old.items page.new.items) }
 {
     let mut digits = Buffer::new();

@@ -1,0 +1,4 @@
+pub mod Tally
+pub mod Bins
+pub mod Sums
+pub mod Radial
