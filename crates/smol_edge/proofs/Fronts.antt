@@ -1,12 +1,8 @@
 -- Taking fronts of what is left, one after another.
-use Rattle.std.proofs.Common.{◌≡◌, ℕ, List, [], ◌++◌, refl, sym, ◌∙◌, ap, append_assoc, ◌+◌, ◌≤◌, take, drop, length, length-append}
+use Rattle.std.proofs.Common.{◌≡◌, ℕ, List, [], ◌++◌, sym, ◌∙◌, ap, append_assoc, ◌+◌, ◌≤◌, take, drop, length, length-append}
 use Rattle.std.proofs.lemmas.List.{length-take-le, take-append-drop, drop-drop}
 use Rattle.std.proofs.Math.Seq.{take-append_seam}
 use Rattle.smol_edge.specs.Source.{Reading, Takes, TakesFront}
-
--- taking nothing
-pub Takes-nothing : (r : Reading) → Takes [] r r
-Takes-nothing r = record { contents = refl; asked = refl; left = refl }
 
 -- one front and then another are both together
 pub Takes-then : (xs ys : List ℕ) (a b c : Reading) → Takes xs a b → Takes ys b c → Takes (xs ++ ys) a c

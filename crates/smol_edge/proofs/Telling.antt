@@ -1,6 +1,6 @@
 -- How what is told before and after a call joins with that of the next call, and how counts rise.
-use Rattle.std.proofs.Common.{ℕ, ◌≤◌, arith, Option, None, Some, Result, Ok, Err, OnErr}
-use Rattle.smol_edge.specs.Faults.{Rose, Tells}
+use Rattle.std.proofs.Common.{ℕ, ◌≤◌, Option, None, Some, Result, Ok, Err, OnErr}
+use Rattle.smol_edge.specs.Faults.{Tells}
 
 -- a relation that each value has to itself holds where nothing was called
 pub Tells-same : {T : Type 0} (a : Option T) (P : T → T → Type 0) → ((x : T) → P x x) → Tells a a P
@@ -19,10 +19,6 @@ Tells-then None b c P Q R join first second = tt
 Tells-then (Some x) None c P Q R join first second = absurd first
 Tells-then (Some x) (Some y) None P Q R join first second = absurd second
 Tells-then (Some x) (Some y) (Some z) P Q R join first second = join x y z first second
-
--- a count that rose in a later call rose since before the earlier one
-pub Rose-later : (a b c : ℕ) → a ≤ b → Rose b c → b ≤ c → Rose a c
-Rose-later a b c earlier rose later = grind arith
 
 -- what always holds, holds at an error
 pub OnErr-always : {T E : Type 0} (result : Result T E) (P : Type 0) → P → OnErr result P

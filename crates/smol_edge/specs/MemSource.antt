@@ -1,5 +1,5 @@
 -- A source in memory, as contracts see it.
-use Rattle.std.specs.Prelude.{◌≡◌, ◌⊎◌, ℕ, List, [], ◌∷◌, Option, None, Some, if◌then◌else◌}
+use Rattle.std.specs.Prelude.{◌≡◌, ◌⊎◌, ℕ, List, [], ◌∷◌, ◌++◌, Option, None, Some, is_some, if◌then◌else◌}
 use Rattle.std.specs.Str.{bytes_eq}
 use Rattle.smol_edge.specs.Faults.{Rose, RoseByOne}
 use Rattle.smol_edge.specs.Calls.{IsNumbered}
@@ -44,3 +44,28 @@ MayFailToOpen name before after =
     IsNumbered before.fails before.calls
     ⊎ ((contents_of before.files name ≡ None)
     ⊎ ((after.asked ≡ before.asked) × Rose before.shortages after.shortages))
+
+-- one more file, unless there is one of this name
+abbrev pub files_with : List File → List ℕ → List ℕ → List File
+files_with files name bytes =
+    if is_some (contents_of files name) then files else files ++ (record { name = name; bytes = bytes }) ∷ []
+
+-- a file was added, and nothing else changed
+pub record Adds (name bytes : List ℕ) (before after : SourceState) : Type 0 where
+  pub files : after.files ≡ files_with before.files name bytes
+  pub left : after.left ≡ before.left
+  pub asked : after.asked ≡ before.asked
+  pub fails : after.fails ≡ before.fails
+  pub calls : after.calls ≡ before.calls
+  pub faults : after.faults ≡ before.faults
+  pub shortages : after.shortages ≡ before.shortages
+
+-- memory was refused, and nothing else changed
+pub record IsRefusedMemory (before after : SourceState) : Type 0 where
+  pub files : after.files ≡ before.files
+  pub left : after.left ≡ before.left
+  pub asked : after.asked ≡ before.asked
+  pub fails : after.fails ≡ before.fails
+  pub calls : after.calls ≡ before.calls
+  pub faults : after.faults ≡ before.faults
+  pub shortages : RoseByOne before.shortages after.shortages

@@ -1,7 +1,7 @@
 //! Files in memory, found by name.
-ghost use Rattle.std.specs.Prelude.{◌≡◌, map, drop, IfSome, IfNone, Some, None};
+ghost use Rattle.std.specs.Prelude.{◌≡◌, ◌∷◌, ◌++◌, [], map, drop, IfSome, IfNone, Some, None};
 ghost use Rattle.smol_edge.specs.MemSource.{contents_of};
-ghost use Rattle.smol_edge.specs.MemFile.{file_of, bytes_at};
+ghost use Rattle.smol_edge.specs.MemFile.{file_of, bytes_at, KeepsPlace};
 
 use crate::mem_file::MemFile;
 
@@ -25,5 +25,16 @@ pub(crate) fn bytes_left(files: &[MemFile], place: usize, position: usize) -> &[
     match files.get(place) {
         Some(file) if position <= file.bytes.len() => &file.bytes[position..],
         _ => &[],
+    }
+}
+
+/// The place that has the same bytes when one more file stands behind these. Past the last file there are none.
+pub(crate) fn place_kept(files: &[MemFile], place: usize) -> usize
+    ensures { KeepsPlace files.now place result }
+{
+    if place < files.len() {
+        place
+    } else {
+        files.len() + 1
     }
 }

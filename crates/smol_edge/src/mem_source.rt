@@ -3,11 +3,11 @@ ghost use Rattle.std.specs.Prelude.{◌≡◌, ◌<◌, ◌≤◌, ◌↔◌, �
 ghost use Rattle.smol_edge.specs.Faults.{Rose, RoseByOne};
 ghost use Rattle.smol_edge.specs.Source.{Opens, FailsToOpen, Takes};
 ghost use Rattle.smol_edge.specs.Calls.{IsNumbered};
-ghost use Rattle.smol_edge.specs.MemSource.{reading_of, Counts, MayFailToOpen};
+ghost use Rattle.smol_edge.specs.MemSource.{reading_of, Counts, MayFailToOpen, Adds, IsRefusedMemory};
 
 use crate::calls::Calls;
 use crate::mem_file::MemFile;
-use crate::mem_files::{bytes_left, find_file};
+use crate::mem_files::{bytes_left, find_file, place_kept};
 use crate::memory::Memory;
 use crate::names::add_name;
 use crate::{Failed, Source};
@@ -20,6 +20,7 @@ use std::marker::Model;
 pub struct MemSource {
     memory: Memory,
     files: Vec<MemFile>,
+    /// Where the file that is open stands, or a place past the last file.
     place: usize,
     position: usize,
     asked: Vec<String>,
@@ -74,6 +75,23 @@ impl MemSource {
             asked: Vec::new(alloc),
             calls,
         })
+    }
+
+    /// Adds a file. One of this name that is there already stays as it is. Where memory is refused, nothing is added.
+    pub fn add(&mut self, name: &str, bytes: &[u8]) -> Result<(), AllocError>
+        ensures added { OnOk result (Adds name.now bytes.now self.old self.new) }
+        ensures not_added { OnErr result (IsRefusedMemory self.old self.new) }
+    {
+        if find_file(&self.files, name).is_some() {
+            return Ok(());
+        }
+        self.memory.reserve(&mut self.files, 1)?;
+        let name = self.memory.copy(name)?;
+        let mut kept = self.memory.list();
+        self.memory.append(&mut kept, bytes)?;
+        self.place = place_kept(&self.files, self.place);
+        self.files.push(MemFile { name, bytes: kept }).unwrap();
+        Ok(())
     }
 
     /// The names asked for, in order.

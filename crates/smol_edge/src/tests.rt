@@ -22,6 +22,23 @@ fn memory_gives_its_bytes(rt: HostRuntime) -> Result<(), Fail> {
 }
 
 #[test]
+fn memory_holds_several_files(rt: HostRuntime) -> Result<(), Fail> {
+    let mut source = MemSource::of(rt.alloc(), "a", b"12345", &[])?;
+    source.add("b", b"678")?;
+    source.add("a", b"9")?;
+    let left = take_all(rt.alloc(), &mut source, 9)?;
+    assert_eq!(rt; left.len(), 0);
+    source.open("b")?;
+    source.add("c", b"0")?;
+    let all = take_all(rt.alloc(), &mut source, 9)?;
+    assert_eq!(rt; all.as_slice(), b"678".as_slice());
+    source.open("a")?;
+    let all = take_all(rt.alloc(), &mut source, 9)?;
+    assert_eq!(rt; all.as_slice(), b"12345".as_slice());
+    Ok(())
+}
+
+#[test]
 fn memory_fails_at_its_second_call(rt: HostRuntime) -> Result<(), Fail> {
     let mut source = MemSource::of(rt.alloc(), "a", b"12345", &[2])?;
     source.open("a")?;

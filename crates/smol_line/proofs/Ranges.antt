@@ -69,7 +69,7 @@ unsigned-within most (Ok x) found within is =
     omega (arith, ints, same)
 unsigned-within most (Err kind) found within is = absurd cc
 
-unsigned_in-within : (places most : ℕ) (word : List ℕ) (found : ℕ) → unsigned_in places most word ≡ Ok found → found ≤ most
+pub unsigned_in-within : (places most : ℕ) (word : List ℕ) (found : ℕ) → unsigned_in places most word ≡ Ok found → found ≤ most
 unsigned_in-within places most word found is =
     unsigned-within most (decimal_in places (pos 0) (pos most) word) found (decimal_in-within places (pos 0) (pos most) word) is
 

@@ -6,8 +6,8 @@ use Rattle.std.proofs.lemmas.List.{map-append}
 use Rattle.std.proofs.Math.ListN.{drop_of_length-le}
 use Rattle.std.proofs.lemmas.List.Sums.{sum_by-cons}
 use Rattle.smol_text.specs.declared.line.Line.{Line}
-use Rattle.smol_text.specs.declared.standing.Standing.{Standing}
-use Rattle.smol_text.specs.declared.standing.Standing.TheVariants.{Open, Commented, Ended}
+use Rattle.smol_text.specs.declared.line_state.LineState.{LineState}
+use Rattle.smol_text.specs.declared.line_state.LineState.TheVariants.{Open, Commented, Ended}
 use Rattle.smol_text.specs.declared.text_fault.TextFault.{TextFault}
 use Rattle.smol_text.specs.declared.text_fault.TextFault.TheVariants.{BadByte, OpenComment, TooManyLines, OutOfMemory}
 use Rattle.smol_text.specs.Lines.{raw_lines, uncommented}
@@ -16,11 +16,11 @@ use Rattle.smol_text.specs.Spans.{LinedText, placed_at, start_of, lines_from, li
 use Rattle.smol_text.proofs.Places.{StandAt, StandAt-raw_lines, map-placed_at}
 
 -- a line is read, behind so many lines
-abbrev pub reads : Standing → ℕ → List ℕ → Bool
+abbrev pub reads : LineState → ℕ → List ℕ → Bool
 reads standing count line = is_open standing && is_open (standing_after (count + 1) standing (first_word line))
 
 -- the fault of a line, behind so many lines
-abbrev pub fault_here : Standing → ℕ → List ℕ → Option LinesFault
+abbrev pub fault_here : LineState → ℕ → List ℕ → Option LinesFault
 fault_here standing count line =
     if is_ended standing
     then None
@@ -29,7 +29,7 @@ fault_here standing count line =
     else (if reads standing count line && not (list_all is_allowed (uncommented line)) then Some (bad_byte (count + 1)) else None))
 
 -- the fault at the end of a text
-abbrev pub last_fault : Standing → Option LinesFault
+abbrev pub last_fault : LineState → Option LinesFault
 last_fault Open = None
 last_fault (Commented opened) = Some (open_comment opened)
 last_fault Ended = None
@@ -39,7 +39,7 @@ first_of (Some fault) later = Some fault
 first_of None later = later
 
 -- the first fault of lines, behind so many lines
-abbrev pub fault_from : Standing → ℕ → List (List ℕ) → Option LinesFault
+abbrev pub fault_from : LineState → ℕ → List (List ℕ) → Option LinesFault
 fault_from standing count [] = last_fault standing
 fault_from standing count (line ∷ lines) =
     first_of (fault_here standing count line) (fault_from (standing_after (count + 1) standing (first_word line)) (count + 1) lines)
@@ -49,7 +49,7 @@ unfoldable pub fault_of : List ℕ → Option LinesFault
 fault_of text = fault_from Open 0 (raw_lines text)
 
 -- the lines that make statements, behind so many lines
-abbrev pub placed_from : Standing → ℕ → ℕ → List (List ℕ) → List Line
+abbrev pub placed_from : LineState → ℕ → ℕ → List (List ℕ) → List Line
 placed_from standing count at [] = []
 placed_from standing count at (line ∷ lines) =
     placed_at (reads standing count line) (count + 1) at line ++ placed_from (standing_after (count + 1) standing (first_word line)) (count + 1) (at + length line + 1) lines
@@ -64,7 +64,7 @@ behind-result_of (Some fault) later statements more = refl
 behind-result_of None (Some later) statements more = refl
 behind-result_of None None statements more = refl
 
-result_of-end : (standing : Standing) → end_fault standing ≡ result_of (last_fault standing) []
+result_of-end : (standing : LineState) → end_fault standing ≡ result_of (last_fault standing) []
 result_of-end Open = refl
 result_of-end (Commented opened) = refl
 result_of-end Ended = refl
@@ -146,23 +146,23 @@ tested-none false false true true f g stands few h = refl
 tested-none false false true false f g stands few h = absurd (let same : false ≡ true = h refl in cc)
 
 -- a line has no fault where it is among the first 65,536 and its bytes are allowed, if it is read
-pub fault_here-none : (standing : Standing) (count : ℕ) (line : List ℕ) → is_ended standing ≡ false → count < 65536 → (reads standing count line ≡ true → list_all is_allowed (uncommented line) ≡ true) → fault_here standing count line ≡ None
+pub fault_here-none : (standing : LineState) (count : ℕ) (line : List ℕ) → is_ended standing ≡ false → count < 65536 → (reads standing count line ≡ true → list_all is_allowed (uncommented line) ≡ true) → fault_here standing count line ≡ None
 fault_here-none standing count line stands few allowed =
     let no : (count == 65536) ≡ false = grind (arith, nat_tests) in
     tested-none (is_ended standing) (count == 65536) (reads standing count line) (list_all is_allowed (uncommented line)) too_many_lines (bad_byte (count + 1)) stands no allowed
 
-pub fault_here-many : (standing : Standing) (count : ℕ) (line : List ℕ) → is_ended standing ≡ false → count ≡ 65536 → fault_here standing count line ≡ Some too_many_lines
+pub fault_here-many : (standing : LineState) (count : ℕ) (line : List ℕ) → is_ended standing ≡ false → count ≡ 65536 → fault_here standing count line ≡ Some too_many_lines
 fault_here-many standing count line stands many =
     let yes : (count == 65536) ≡ true = grind (arith, nat_tests) in
     rw (stands, yes) refl
 
-pub fault_here-byte : (standing : Standing) (count : ℕ) (line : List ℕ) → is_ended standing ≡ false → count < 65536 → reads standing count line ≡ true → list_all is_allowed (uncommented line) ≡ false → fault_here standing count line ≡ Some (bad_byte (count + 1))
+pub fault_here-byte : (standing : LineState) (count : ℕ) (line : List ℕ) → is_ended standing ≡ false → count < 65536 → reads standing count line ≡ true → list_all is_allowed (uncommented line) ≡ false → fault_here standing count line ≡ Some (bad_byte (count + 1))
 fault_here-byte standing count line stands few read bad =
     let no : (count == 65536) ≡ false = grind (arith, nat_tests) in
     rw (stands, no, read, bad) refl
 
 -- one more line of a text, with its next lines
-module _ (bytes : List ℕ) (standing : Standing) (count : ℕ) (rest : List (List ℕ)) (line : List ℕ) (next : List (List ℕ)) (is : rest ≡ line ∷ next) where
+module _ (bytes : List ℕ) (standing : LineState) (count : ℕ) (rest : List (List ℕ)) (line : List ℕ) (next : List (List ℕ)) (is : rest ≡ line ∷ next) where
   pub fault_from-found : (fault : LinesFault) → fault_from standing count rest ≡ fault_of bytes → fault_here standing count line ≡ Some fault → fault_of bytes ≡ Some fault
   fault_from-found fault so_far here =
       sym so_far ∙ ap (fault_from standing count) is ∙ ap (λ o. first_of o (fault_from (standing_after (count + 1) standing (first_word line)) (count + 1) next)) here
@@ -181,34 +181,34 @@ module _ (bytes : List ℕ) (standing : Standing) (count : ℕ) (rest : List (Li
       ∙ so_far
 
 -- behind the last byte of a text there is no line
-pub fault_from-past : (bytes : List ℕ) (standing : Standing) (count at : ℕ) → length bytes ≤ at → fault_from standing count (raw_lines (drop at bytes)) ≡ last_fault standing
+pub fault_from-past : (bytes : List ℕ) (standing : LineState) (count at : ℕ) → length bytes ≤ at → fault_from standing count (raw_lines (drop at bytes)) ≡ last_fault standing
 fault_from-past bytes standing count at past = ap (λ t. fault_from standing count (raw_lines t)) (drop_of_length-le bytes past)
 
-pub placed_from-past : (bytes : List ℕ) (standing : Standing) (count at : ℕ) → length bytes ≤ at → placed_from standing count at (raw_lines (drop at bytes)) ≡ []
+pub placed_from-past : (bytes : List ℕ) (standing : LineState) (count at : ℕ) → length bytes ≤ at → placed_from standing count at (raw_lines (drop at bytes)) ≡ []
 placed_from-past bytes standing count at past = ap (λ t. placed_from standing count at (raw_lines t)) (drop_of_length-le bytes past)
 
-pub fault_from-ended : (standing : Standing) (count : ℕ) (lines : List (List ℕ)) → is_ended standing ≡ true → fault_from standing count lines ≡ last_fault standing
+pub fault_from-ended : (standing : LineState) (count : ℕ) (lines : List (List ℕ)) → is_ended standing ≡ true → fault_from standing count lines ≡ last_fault standing
 fault_from-ended Open count lines ended = absurd cc
 fault_from-ended (Commented opened) count lines ended = absurd cc
 fault_from-ended Ended count lines ended = fault_from-Ended count lines
 
-pub placed_from-ended : (standing : Standing) (count at : ℕ) (lines : List (List ℕ)) → is_ended standing ≡ true → placed_from standing count at lines ≡ []
+pub placed_from-ended : (standing : LineState) (count at : ℕ) (lines : List (List ℕ)) → is_ended standing ≡ true → placed_from standing count at lines ≡ []
 placed_from-ended Open count at lines ended = absurd cc
 placed_from-ended (Commented opened) count at lines ended = absurd cc
 placed_from-ended Ended count at lines ended = placed_from-Ended count at lines
 
 -- a line is read where it and the line behind it stand open
-pub reads-open : (standing next : Standing) (count : ℕ) (line : List ℕ) → next ≡ standing_after (count + 1) standing (first_word line) → is_open standing ≡ true → is_open next ≡ true → reads standing count line ≡ true
+pub reads-open : (standing next : LineState) (count : ℕ) (line : List ℕ) → next ≡ standing_after (count + 1) standing (first_word line) → is_open standing ≡ true → is_open next ≡ true → reads standing count line ≡ true
 reads-open standing next count line is here behind = rw (here, ← is, behind) refl
 
 and_false : (b : Bool) → (b && false) ≡ false
 and_false true = refl
 and_false false = refl
 
-pub reads-closed : (standing next : Standing) (count : ℕ) (line : List ℕ) → next ≡ standing_after (count + 1) standing (first_word line) → is_open next ≡ false → reads standing count line ≡ false
+pub reads-closed : (standing next : LineState) (count : ℕ) (line : List ℕ) → next ≡ standing_after (count + 1) standing (first_word line) → is_open next ≡ false → reads standing count line ≡ false
 reads-closed standing next count line is behind = ap (λ b. is_open standing && b) (ap is_open (sym is) ∙ behind) ∙ and_false (is_open standing)
 
-pub reads-commented : (standing : Standing) (count : ℕ) (line : List ℕ) → is_open standing ≡ false → reads standing count line ≡ false
+pub reads-commented : (standing : LineState) (count : ℕ) (line : List ℕ) → is_open standing ≡ false → reads standing count line ≡ false
 reads-commented standing count line here = ap (λ b. b && is_open (standing_after (count + 1) standing (first_word line))) here
 
 -- a byte is told that isn't allowed, unless memory ran out

@@ -4,8 +4,8 @@ use Rattle.std.specs.List.{slice_split, onto_first, list_all, All, filter}
 use Rattle.std.proofs.lemmas.Bool.{cond_both}
 use Rattle.std.proofs.lemmas.Bool.Decides.{nat_tests}
 use Rattle.std.proofs.lemmas.List.Elements.{All-nil, All-cons, All-head, All-tail, All-append}
-use Rattle.smol_text.specs.declared.standing.Standing.{Standing}
-use Rattle.smol_text.specs.declared.standing.Standing.TheVariants.{Open, Commented, Ended}
+use Rattle.smol_text.specs.declared.line_state.LineState.{LineState}
+use Rattle.smol_text.specs.declared.line_state.LineState.TheVariants.{Open, Commented, Ended}
 use Rattle.smol_text.specs.Lines.{separates, has_bytes, raw_lines, uncommented, words, words_in, IsWord}
 use Rattle.smol_text.specs.Reading.{Stated, LinesFault, bad_byte, too_many_lines, words_of, stated, is_open, is_ended, is_allowed, standing, is_read, line_fault, stated_if, behind, end_fault, statements_from, statements_of}
 
@@ -67,7 +67,7 @@ allowed_from_no_fault false true read false f g none stands reads = absurd cc
 allowed_from_no_fault false false true false f g none stands reads = absurd cc
 allowed_from_no_fault false false false false f g none stands reads = absurd cc
 
-not_ended : (standing : Standing) → is_open standing ≡ true → is_ended standing ≡ false
+not_ended : (standing : LineState) → is_open standing ≡ true → is_ended standing ≡ false
 not_ended Open stands = refl
 not_ended (Commented opened) stands = absurd cc
 not_ended Ended stands = absurd cc
@@ -82,7 +82,7 @@ IfOk-behind (Some fault) statements rest here more = tt
 IfOk-behind None statements (Ok rest) here more = All-append IsSeenStatement statements rest (here refl) more
 IfOk-behind None statements (Err fault) here more = tt
 
-IfOk-end_fault : (standing : Standing) → IfOk (end_fault standing) (All IsSeenStatement)
+IfOk-end_fault : (standing : LineState) → IfOk (end_fault standing) (All IsSeenStatement)
 IfOk-end_fault Open = All-nil IsSeenStatement
 IfOk-end_fault (Commented opened) = tt
 IfOk-end_fault Ended = All-nil IsSeenStatement

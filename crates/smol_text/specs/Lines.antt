@@ -2,6 +2,10 @@
 use Rattle.std.specs.Prelude.{ℕ, ◌<◌, ◌≤◌, ◌||◌, ◌==◌, Bool, true, false, List, [], ◌∷◌, All, length, filter}
 use Rattle.std.specs.List.{slice_split, before_first}
 
+-- the greatest length of a text, in bytes: 4 MiB
+abbrev pub most_bytes : ℕ
+most_bytes = 4194304
+
 -- a line feed, which ends a line
 abbrev pub is_line_feed : ℕ → Bool
 is_line_feed b = b == 10

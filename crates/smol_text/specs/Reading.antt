@@ -2,8 +2,8 @@
 use Rattle.std.specs.Prelude.{◌≡◌, ℕ, ◌+◌, ◌||◌, ◌==◌, Bool, true, false, not, ◌&&◌, nat_le, List, [], ◌∷◌, ◌++◌, length, Option, None, Some, Result, Ok, Err, if◌then◌else◌, codes, slice_get, unwrap_or}
 use Rattle.std.specs.List.{list_all}
 use Rattle.std.specs.Str.{bytes_eq}
-use Rattle.smol_text.specs.declared.standing.Standing.{Standing}
-use Rattle.smol_text.specs.declared.standing.Standing.TheVariants.{Open, Commented, Ended}
+use Rattle.smol_text.specs.declared.line_state.LineState.{LineState}
+use Rattle.smol_text.specs.declared.line_state.LineState.TheVariants.{Open, Commented, Ended}
 use Rattle.smol_text.specs.declared.text_fault.TextFault.{TextFault}
 use Rattle.smol_text.specs.declared.text_fault.TextFault.TheVariants.{BadByte, OpenComment, TooManyLines, OutOfMemory}
 use Rattle.smol_text.specs.Lines.{raw_lines, uncommented, words, words_in}
@@ -25,13 +25,13 @@ pub data LinesFault : Type 0 where
   too_many_lines : LinesFault
 
 -- a line stands open to be read: neither within the block comment that an earlier line opened nor behind the end of the text
-abbrev pub is_open : Standing → Bool
+abbrev pub is_open : LineState → Bool
 is_open Open = true
 is_open (Commented opened) = false
 is_open Ended = false
 
 -- a line stands behind the end of the text
-abbrev pub is_ended : Standing → Bool
+abbrev pub is_ended : LineState → Bool
 is_ended Open = false
 is_ended (Commented opened) = false
 is_ended Ended = true
@@ -41,14 +41,14 @@ abbrev pub first_word : List ℕ → List ℕ
 first_word line = unwrap_or (slice_get (words line) 0) []
 
 -- how the line behind a line of this number stands, by how that one stands and by its first word
-abbrev pub standing_after : ℕ → Standing → List ℕ → Standing
+abbrev pub standing_after : ℕ → LineState → List ℕ → LineState
 standing_after number Open word =
     if bytes_eq word (codes "/*") then Commented number else (if bytes_eq word (codes "end_file") then Ended else Open)
 standing_after number (Commented opened) word = if bytes_eq word (codes "*/") then Open else Commented opened
 standing_after number Ended word = Ended
 
 -- how the line behind these lines stands
-abbrev pub standing : List (List ℕ) → Standing
+abbrev pub standing : List (List ℕ) → LineState
 standing [] = Open
 standing (line ∷ before) = standing_after (length before + 1) (standing before) (first_word line)
 
@@ -80,7 +80,7 @@ abbrev pub stated : List (List ℕ) → List ℕ → List Stated
 stated before line = stated_if (is_read before line) (length before + 1) (uncommented line) (words line)
 
 -- behind the last line a comment is still open, or nothing is at fault
-abbrev pub end_fault : Standing → Result (List Stated) LinesFault
+abbrev pub end_fault : LineState → Result (List Stated) LinesFault
 end_fault Open = Ok []
 end_fault (Commented opened) = Err (open_comment opened)
 end_fault Ended = Ok []

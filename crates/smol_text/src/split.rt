@@ -1,12 +1,12 @@
 //! A text is split into the lines that make statements, and such a line into words.
-ghost use Rattle.std.specs.Prelude.{◌≡◌, ◌≢◌, ◌+◌, ◌++◌, ◌≤◌, length, not, true, false, is_ok, IsTrue, OnOk, IfOk, IfErr};
+ghost use Rattle.std.specs.Prelude.{◌≡◌, ◌≢◌, ◌+◌, ◌∷◌, ◌++◌, ◌<◌, ◌≤◌, drop, length, not, true, false, is_ok, IsTrue, OnOk, IfOk, IfErr};
 ghost use Rattle.std.specs.List.{list_all, position, slice_split};
-ghost use Rattle.smol_text.specs.Lines.{begins_comment, is_line_feed, separates, uncommented};
+ghost use Rattle.smol_text.specs.Lines.{begins_comment, is_line_feed, most_bytes, raw_lines, separates, uncommented};
 ghost use Rattle.smol_text.specs.Reading.{first_word, is_allowed, statements_of, TellsLines};
 ghost use Rattle.smol_text.specs.Spans.{places_of_pieces, placed_at, lines_of, stated_lines};
 
 use crate::line::{Line, Span, Words};
-use crate::standing::Standing;
+use crate::line_state::LineState;
 use crate::text::Text;
 use crate::text_fault::TextFault;
 use std::alloc::Global;
@@ -20,7 +20,7 @@ const MOST_LINES: u32 = 65536;
 /// which the next line closes whose first word is `*/`. A line whose first word is `end_file` ends the text.
 /// The first fault met from the first line on is answered.
 pub fn split_lines(alloc: Global, bytes: &[u8]) -> Result<Text, TextFault>
-    requires { length bytes.now ≤ 4194304 }
+    requires { length bytes.now ≤ most_bytes }
     ensures bytes { IfOk result (λ text. text.bytes ≡ bytes.now) }
     ensures statements { IfOk result (λ text. statements_of bytes.now ≡ Ok (stated_lines text)) }
     ensures places { IfOk result (λ text. text.lines ≡ lines_of bytes.now) }
@@ -33,13 +33,13 @@ pub fn split_lines(alloc: Global, bytes: &[u8]) -> Result<Text, TextFault>
 
 /// Every line of a text that makes a statement, with its number and the places of its words.
 fn find_lines(alloc: Global, bytes: &[u8]) -> Result<Vec<Line>, TextFault>
-    requires { length bytes.now ≤ 4194304 }
+    requires { length bytes.now ≤ most_bytes }
     ensures lines { IfOk result (λ lines. lines.items ≡ lines_of bytes.now) }
     ensures accepted { IfOk result (λ _. IsTrue (is_ok (statements_of bytes.now))) }
     ensures refused { IfErr result (λ fault. TellsLines fault (statements_of bytes.now)) }
 {
     let mut lines = Vec::new(alloc);
-    let mut standing = Standing::Open;
+    let mut standing = LineState::Open;
     let mut passed = 0;
     let mut at = 0;
     while at < bytes.len() && !standing.is_ended() {
@@ -58,8 +58,8 @@ fn find_lines(alloc: Global, bytes: &[u8]) -> Result<Vec<Line>, TextFault>
         at = end + 1;
     }
     match standing {
-        Standing::Commented { line } => Err(TextFault::OpenComment { line }),
-        Standing::Open | Standing::Ended => Ok(lines),
+        LineState::Commented { line } => Err(TextFault::OpenComment { line }),
+        LineState::Open | LineState::Ended => Ok(lines),
     }
 }
 
@@ -71,7 +71,7 @@ fn keep_statement(
     line: &[u8],
     at: usize,
 ) -> Result<(), TextFault>
-    requires { at + length line.now ≤ 4194304 }
+    requires { at + length line.now ≤ most_bytes }
     ensures kept { OnOk result (lines.new.items ≡ lines.old.items ++ placed_at true number at line.now) }
     ensures allowed { OnOk result (list_all is_allowed (uncommented line.now) ≡ true) }
     ensures refused { IfErr result (λ fault. fault ≢ TextFault.OutOfMemory → fault ≡ TextFault.BadByte number) }
@@ -96,8 +96,18 @@ fn keep_statement(
     Ok(())
 }
 
+/// The first line of a text that isn't empty. The next line begins behind its line feed.
+pub fn first_line(text: &[u8]) -> &[u8]
+    requires { 0 < length text.now }
+    ensures within { length result.now ≤ length text.now }
+    ensures lines { raw_lines text.now ≡ result.now ∷ raw_lines (drop (length result.now + 1) text.now) }
+{
+    let end = first_line_feed(text).unwrap_or(text.len());
+    &text[..end]
+}
+
 /// The part of a line before its comment.
-fn before_comment(line: &[u8]) -> &[u8]
+pub fn before_comment(line: &[u8]) -> &[u8]
     ensures { result.now ≡ uncommented line.now }
 {
     let end = first_hash(line).unwrap_or(line.len());
@@ -105,7 +115,7 @@ fn before_comment(line: &[u8]) -> &[u8]
 }
 
 /// The first word of a line, and no bytes where it has none.
-fn first_word_of(line: &[u8]) -> &[u8]
+pub fn first_word_of(line: &[u8]) -> &[u8]
     ensures { result.now ≡ first_word line.now }
 {
     let part = before_comment(line);
@@ -117,7 +127,7 @@ fn first_word_of(line: &[u8]) -> &[u8]
 
 /// The places of the words of the part of a line before its comment, where its first byte stands at `at`.
 fn find_words(alloc: Global, part: &[u8], at: u32) -> Result<Words, TextFault>
-    requires { at + length part.now ≤ 4194304 }
+    requires { at + length part.now ≤ most_bytes }
     ensures words { IfOk result (λ words. words ≡ places_of_pieces at (slice_split separates part.now)) }
     ensures memory { IfErr result (λ fault. fault ≡ TextFault.OutOfMemory) }
 {
@@ -152,7 +162,7 @@ fn first_hash(bytes: &[u8]) -> Option<usize>
 }
 
 /// Where the first separator stands.
-fn first_separator(bytes: &[u8]) -> Option<usize>
+pub fn first_separator(bytes: &[u8]) -> Option<usize>
     ensures { result ≡ position separates bytes.now }
 {
     bytes
@@ -161,7 +171,7 @@ fn first_separator(bytes: &[u8]) -> Option<usize>
 }
 
 /// Where the first byte stands that separates no words.
-fn first_word_byte(bytes: &[u8]) -> Option<usize>
+pub fn first_word_byte(bytes: &[u8]) -> Option<usize>
     ensures { result ≡ position (λ b. not (separates b)) bytes.now }
 {
     bytes
@@ -170,7 +180,7 @@ fn first_word_byte(bytes: &[u8]) -> Option<usize>
 }
 
 /// Whether each byte may stand before the comment of a line that is read.
-fn are_allowed(bytes: &[u8]) -> bool
+pub fn are_allowed(bytes: &[u8]) -> bool
     ensures { result ≡ list_all is_allowed bytes.now }
 {
     bytes.iter().all(|b| *b == b'\t' || *b == b'\r' || (b' ' <= *b && *b <= b'~'))

@@ -4,7 +4,7 @@ use Rattle.std.specs.List.{list_all, position_or_len}
 use Rattle.std.proofs.lemmas.List.{append-nil, length-take-le}
 use Rattle.std.proofs.lemmas.List.Sums.{prefix_len-le-length}
 use Rattle.smol_text.specs.declared.line.Line.{Line}
-use Rattle.smol_text.specs.declared.standing.Standing.TheVariants.{Open}
+use Rattle.smol_text.specs.declared.line_state.LineState.TheVariants.{Open}
 use Rattle.smol_text.specs.Lines.{is_line_feed, raw_lines, uncommented}
 use Rattle.smol_text.specs.Reading.{bad_byte, open_comment, too_many_lines, first_word, is_allowed, standing_after}
 use Rattle.smol_text.specs.Spans.{placed_at}

@@ -1,0 +1,14 @@
+pub mod Lengths
+pub mod Walks
+pub mod FirstWord
+pub mod Entries
+pub mod Pieces
+pub mod Outermost
+pub mod Behind
+pub mod Names
+pub mod Reaching
+pub mod FilesWithin
+pub mod WholeText
+pub mod PlainLines
+pub mod PlainText
+pub mod PlainFile

@@ -1,0 +1,10 @@
+pub mod Refusal
+pub mod Given
+pub mod Files
+pub mod Expanding
+pub mod Including
+pub mod Meanings
+pub mod Kept
+pub mod Walking
+pub mod Conditions
+pub mod Plain
