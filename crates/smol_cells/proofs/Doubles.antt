@@ -5,13 +5,13 @@ use Rattle.std.proofs.lemmas.Bool.{cases_eq, cases_lt}
 use Rattle.std.proofs.lemmas.Int.{ints}
 use Rattle.smol_geom.specs.Axes.{EachAxis, IsWithin, on_axis}
 use Rattle.smol_geom.specs.declared.cuboid.Cuboid.{Cuboid}
-use Rattle.smol_cells.specs.Bounds.{IsLeastDouble, boxes_in, boxes_on, extent}
+use Rattle.smol_cells.specs.Bounds.{IsLeastDouble, boxes_in, boxes_on, extent, most_boxes}
 
 -- the edge is a double of the wanted one, and all before it give too many boxes
 pub record IsDouble (bounds : Cuboid) (wanted edge : ℕ) : Type 0 where
   pub times : ℕ
   pub is : edge ≡ wanted * 2 ^ times
-  pub least : (fewer : ℕ) → fewer < times → 1048576 < boxes_in bounds (wanted * 2 ^ fewer)
+  pub least : (fewer : ℕ) → fewer < times → most_boxes < boxes_in bounds (wanted * 2 ^ fewer)
 
 one_box : (bounds : Cuboid) (edge axis : ℕ) → extent bounds axis < edge → boxes_on bounds edge axis ≡ 1
 one_box bounds edge axis long = let none : extent bounds axis / edge ≡ 0 = div-eq_of_lt long in omega arith
@@ -27,7 +27,7 @@ extent_short bounds axis low high = omega (arith, ints)
 
 -- an edge that gives too many boxes is short
 pub short_of_many : (bounds : Cuboid) (edge : ℕ) → IsWithin (2 ^ 58) bounds.low → IsWithin (2 ^ 58) bounds.high
-    → 1048576 < boxes_in bounds edge → edge ≤ 2 ^ 59
+    → most_boxes < boxes_in bounds edge → edge ≤ 2 ^ 59
 short_of_many bounds edge low high many = ⊎_elim
     (λ (long : 2 ^ 59 < edge).
     let x = extent_short bounds 0 low.0 high.0 in
@@ -43,16 +43,16 @@ pub double_first : (bounds : Cuboid) (wanted : ℕ) → IsDouble bounds wanted w
 double_first bounds wanted = record { times = 0; is = omega arith; least = λ fewer below. absurd (omega (arith, below)) }
 
 -- where a double gives too many boxes, the next one follows
-pub double_more : (bounds : Cuboid) (wanted edge : ℕ) → IsDouble bounds wanted edge → 1048576 < boxes_in bounds edge → IsDouble bounds wanted (edge * 2)
+pub double_more : (bounds : Cuboid) (wanted edge : ℕ) → IsDouble bounds wanted edge → most_boxes < boxes_in bounds edge → IsDouble bounds wanted (edge * 2)
 double_more bounds wanted edge double many = record {
   times = suc double.times;
   is = ap (λ n. n * 2) double.is ∙ mul_assoc wanted (2 ^ double.times) 2 ∙ ap (λ n. wanted * n) (sym (pow-suc 2 double.times));
   least = λ fewer below. ⊎_elim
-      (λ (e : fewer ≡ double.times). subst (λ n. 1048576 < boxes_in bounds n) (double.is ∙ ap (λ n. wanted * 2 ^ n) (sym e)) many)
+      (λ (e : fewer ≡ double.times). subst (λ n. most_boxes < boxes_in bounds n) (double.is ∙ ap (λ n. wanted * 2 ^ n) (sym e)) many)
       (λ (other : fewer ≡ double.times → ⊥). double.least fewer (omega (arith, below)))
       (cases_eq fewer double.times);
 }
 
 -- the first double that gives few boxes is the least
-pub least_of_double : (bounds : Cuboid) (wanted edge : ℕ) → IsDouble bounds wanted edge → boxes_in bounds edge ≤ 1048576 → IsLeastDouble bounds wanted edge
+pub least_of_double : (bounds : Cuboid) (wanted edge : ℕ) → IsDouble bounds wanted edge → boxes_in bounds edge ≤ most_boxes → IsLeastDouble bounds wanted edge
 least_of_double bounds wanted edge double few = record { times = double.times; is = double.is; few = few; least = double.least }

@@ -15,9 +15,13 @@ boxes_on bounds edge axis = extent bounds axis / edge + 1
 abbrev pub boxes_in : Cuboid → ℕ → ℕ
 boxes_in bounds edge = boxes_on bounds edge 2 * boxes_on bounds edge 1 * boxes_on bounds edge 0
 
--- the edge is the least of the wanted one, its double, the double of that and so on that gives at most 2^20 boxes
+-- how many boxes a grid may have: 2^20
+abbrev pub most_boxes : ℕ
+most_boxes = 1048576
+
+-- the edge is the least of the wanted one, its double, the double of that and so on that gives no more boxes than there may be
 pub record IsLeastDouble (bounds : Cuboid) (wanted edge : ℕ) : Type 0 where
   pub times : ℕ
   pub is : edge ≡ wanted * 2 ^ times
-  pub few : boxes_in bounds edge ≤ 1048576
-  pub least : (fewer : ℕ) → fewer < times → 1048576 < boxes_in bounds (wanted * 2 ^ fewer)
+  pub few : boxes_in bounds edge ≤ most_boxes
+  pub least : (fewer : ℕ) → fewer < times → most_boxes < boxes_in bounds (wanted * 2 ^ fewer)

@@ -2,7 +2,7 @@
 ghost use Rattle.std.specs.Prelude.{◌≡◌, ℕ, ◌+◌, ◌*◌, ◌^◌, ◌<◌, ◌≤◌, ◌↔◌, IsTrue, Some, ◌-ℤ◌, unsigned_abs};
 ghost use Rattle.std.specs.Option.{ForSome};
 ghost use Rattle.smol_geom.specs.Axes.{IsWithin, on_axis};
-ghost use Rattle.smol_cells.specs.Bounds.{IsLeastDouble, boxes_in, boxes_on};
+ghost use Rattle.smol_cells.specs.Bounds.{IsLeastDouble, boxes_in, boxes_on, most_boxes};
 ghost use Rattle.smol_cells.specs.Numbers.{above_low};
 
 use smol_geom::Cuboid;
@@ -31,7 +31,7 @@ fn are_few(bounds: &Cuboid, edge: u64) -> bool
     requires low { IsWithin (2 ^ 58) bounds.now.low }
     requires high { IsWithin (2 ^ 58) bounds.now.high }
     requires positive { 0 < edge }
-    ensures { IsTrue result ↔ (boxes_in bounds.now edge ≤ 1048576) }
+    ensures { IsTrue result ↔ (boxes_in bounds.now edge ≤ most_boxes) }
 {
     let x = boxes_on(bounds, edge, 0);
     let y = boxes_on(bounds, edge, 1);

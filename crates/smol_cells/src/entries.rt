@@ -3,6 +3,7 @@ ghost use Rattle.std.specs.Prelude.{◌≡◌, ℕ, ◌+◌, ◌^◌, ◌<◌, �
 ghost use Rattle.std.specs.List.Sorted.{IsNonDecreasingBy};
 ghost use Rattle.smol_geom.specs.declared.place.Place.{Place};
 ghost use Rattle.smol_geom.specs.Axes.{IsWithin};
+ghost use Rattle.smol_cells.specs.Bounds.{most_boxes};
 ghost use Rattle.smol_cells.specs.declared.entries.Entry.{Entry};
 ghost use Rattle.smol_cells.specs.Entries.{IsOfPlace, boxes_entries, entries_from, layer_entries, number_at, row_entries};
 ghost use Rattle.smol_cells.specs.Numbers.{count_on};
@@ -162,7 +163,7 @@ fn start_from(entries: &[Entry], place: usize, number: usize) -> usize
 // The starts of this many boxes, and the end behind them.
 pub fn starts_of(alloc: Global, entries: &[Entry], count: usize) -> Result<Vec<usize>, AllocError>
     requires rising { IsNonDecreasingBy (λ (entry : Entry). entry.number) entries.now }
-    requires few { count ≤ 1048576 }
+    requires few { count ≤ most_boxes }
     ensures len { IfOk result (λ starts. length starts.items ≡ count + 1) }
     ensures starts { IfOk result (λ starts. AreStarts (length entries.now) (number_at entries.now) starts.items) }
 {

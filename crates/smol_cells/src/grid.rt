@@ -1,6 +1,7 @@
 ghost use Rattle.std.specs.Prelude.{◌≡◌, ℕ, ◌*◌, ◌/◌, ◌^◌, ◌<◌, ◌≤◌, Some};
 ghost use Rattle.std.specs.Option.{ForSome};
 ghost use Rattle.smol_geom.specs.Axes.{EachAxis, IsWithin};
+ghost use Rattle.smol_cells.specs.Bounds.{most_boxes};
 ghost use Rattle.smol_cells.specs.Numbers.{count_on, product};
 
 use crate::bounds::{above_low, boxes_on, least_double, power_of};
@@ -18,7 +19,7 @@ pub struct Grid {
     ghost positive: { 0 < edge },
     ghost exact: { ForSome shift (λ s. (s < 64) × (edge ≡ 2 ^ s)) },
     ghost some: { EachAxis (λ axis. 0 < count_on counts axis) },
-    ghost few: { product counts ≤ 1048576 },
+    ghost few: { product counts ≤ most_boxes },
 }
 
 impl Grid {
@@ -65,7 +66,7 @@ impl Grid {
     /// How many boxes there are.
     pub fn len(&self) -> usize
         ensures value { result ≡ product self.now.counts }
-        ensures few { result ≤ 1048576 }
+        ensures few { result ≤ most_boxes }
     {
         self.counts[2] * self.counts[1] * self.counts[0]
     }

@@ -87,23 +87,6 @@ in_cell low high start way c t num is cell behind not_ahead = go (direction way)
         let r = in_cell_down low high start c num t.den (unsigned_abs way) above below behind not_ahead in
         (omega (arith, sums, r.0, made), omega (arith, sums, r.1, made))
 
--- at the next even number the way has made its ticks exactly
-pub at_ahead : (start way : ℤ) (c : ℕ) (t : Fraction) → t.num ≡ pos (2 * c + 1) → t.den ≡ unsigned_abs way
-    → scaled_way start way t ≡ ahead start way c *ℤ pos t.den
-at_ahead start way c t num den = go (direction way)
-  where
-    go : ((int_lt (pos 0) way ≡ true) × (way ≡ pos (unsigned_abs way))) ⊎ ((int_lt (pos 0) way ≡ false) × (way ≡ neg_ℤ (pos (unsigned_abs way))))
-        → scaled_way start way t ≡ ahead start way c *ℤ pos t.den
-    go (inl d) =
-        let made : t.num *ℤ way ≡ pos (2 * c + 1) *ℤ pos t.den = (λ i. num i *ℤ (d.1 ∙ ap pos (sym den)) i) in
-        let spread = mul-add_left start (pos (2 * c + 1)) (pos t.den) in
-        rw d.0 (omega (arith, sums, made, spread))
-    go (inr d) =
-        let made : t.num *ℤ way ≡ neg_ℤ (pos (2 * c + 1) *ℤ pos t.den) = (λ i. num i *ℤ (d.1 ∙ ap (λ n. neg_ℤ (pos n)) (sym den)) i) ∙ mul-neg_right (pos (2 * c + 1)) (pos t.den) in
-        let spread : (start +ℤ neg_ℤ (pos (2 * c + 1))) *ℤ pos t.den ≡ start *ℤ pos t.den +ℤ neg_ℤ (pos (2 * c + 1)) *ℤ pos t.den = mul-add_left start (neg_ℤ (pos (2 * c + 1))) (pos t.den) in
-        let turned = mul-neg_left (pos (2 * c + 1)) (pos t.den) in
-        rw d.0 (omega (arith, sums, made, spread, turned))
-
 -- a step that goes on: where the next even number is not the bound ahead, the next cell is within the bounds
 pub cell_through : (low high start way : ℤ) (c : ℕ) → IsDouble low → IsDouble high → IsCell low high (centre start way c)
     → (int_lt (pos 0) way ≡ true → ahead start way c ≡ high → ⊥)

@@ -1,1 +1,4 @@
+mod Barring
+pub mod Near
 pub mod Numbered
+pub mod Stretches

@@ -5,18 +5,20 @@ ghost use Rattle.smol_meaning.specs.Sight.{is_below, passes};
 ghost use Rattle.smol_meaning.specs.Sighted.{IsPlaceWithin};
 
 use crate::Panels;
+use crate::boxes::stretch;
 use crate::sheet::{across, line_meets};
 use smol_geom::Place;
 use smol_meaning::{Response, Sheet};
 use smol_types::Mol;
 
 impl<'a> Panels<'a> {
-    ghost use Rattle.std.specs.Prelude.{◌≡◌, ◌<◌, ◌+◌, ◌^◌, Some, length, slice_get};
+    ghost use Rattle.std.specs.Prelude.{◌≡◌, ◌<◌, ◌+◌, ◌^◌, Some, true, false, length, slice_get};
     ghost use Rattle.smol_meaning.specs.Plates.{Plate};
     ghost use Rattle.smol_meaning.specs.Seen.{plates_of};
     ghost use Rattle.smol_meaning.specs.Sight.{are_hidden, bars, is_barred};
     ghost use Rattle.smol_meaning.specs.Folds.{IsSheet};
     ghost use Rattle.smol_meaning.specs.Sighted.{IsPlaceWithin};
+    ghost use Rattle.smol_sheets.specs.Sheets.{NoneBars};
 
     /// Whether two molecules are hidden from each other: one of them is barred from the other.
     #[tactic(auto, unfolding(smol_meaning::specs::Sight::are_hidden))]
@@ -38,12 +40,55 @@ impl<'a> Panels<'a> {
         requires b { IsPlaceWithin (2 ^ 58) b.now }
         ensures { result ≡ is_barred self.now species a.now b.now }
     {
-        for (number, sheet) in self.sheets().iter().enumerate() {
-            if self.bars(number as u16, sheet, species, a, b) {
+        if self.is_barred_by_panel(species, a, b) {
+            return true;
+        }
+        self.is_barred_by_wall(species, a, b)
+    }
+
+    // Whether some panel doesn't let it through. Those that the line meets are near it.
+    fn is_barred_by_panel(&self, species: u16, a: &Place, b: &Place) -> bool
+        requires species { species < length self.now.species }
+        requires a { IsPlaceWithin (2 ^ 58) a.now }
+        requires b { IsPlaceWithin (2 ^ 58) b.now }
+        ensures barred { result ≡ true → is_barred self.now species a.now b.now ≡ true }
+        ensures free { result ≡ false → NoneBars self.now species a.now b.now 0 (length self.now.panels) }
+    {
+        for number in self.touching(&stretch(a, b)) {
+            if self.bars_at(number, species, a, b) {
                 return true;
             }
         }
         false
+    }
+
+    // Whether some wall doesn't let it through.
+    fn is_barred_by_wall(&self, species: u16, a: &Place, b: &Place) -> bool
+        requires species { species < length self.now.species }
+        requires a { IsPlaceWithin (2 ^ 58) a.now }
+        requires b { IsPlaceWithin (2 ^ 58) b.now }
+        ensures barred { result ≡ true → is_barred self.now species a.now b.now ≡ true }
+        ensures free { result ≡ false
+            → NoneBars self.now species a.now b.now (length self.now.panels) (length self.now.panels + length self.now.walls) }
+    {
+        for number in self.config().panels().len()..self.sheets().len() {
+            if self.bars_at(number, species, a, b) {
+                return true;
+            }
+        }
+        false
+    }
+
+    // Whether the panel or wall of this number doesn't let it through.
+    fn bars_at(&self, number: usize, species: u16, a: &Place, b: &Place) -> bool
+        requires number { number < length self.now.panels + length self.now.walls }
+        requires species { species < length self.now.species }
+        requires a { IsPlaceWithin (2 ^ 58) a.now }
+        requires b { IsPlaceWithin (2 ^ 58) b.now }
+        ensures { (plate : Plate) → slice_get (plates_of self.now) number ≡ Some plate → result ≡ bars species a.now b.now plate }
+    {
+        let sheets = self.sheets();
+        self.bars(number as u16, &sheets[number], species, a, b)
     }
 
     // Whether the panel or wall of this number stands on the line from a to b and doesn't let through what comes from a.

@@ -1,6 +1,7 @@
 //! Panels and walls as one kind: where they stand and what their faces do.
 #![tactic(auto)]
 
+mod boxes;
 mod effect;
 mod hidden;
 mod panels;

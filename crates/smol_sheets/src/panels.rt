@@ -5,7 +5,10 @@ ghost use Rattle.smol_meaning.specs.declared.sheet.Sheet.TheVariants.{Plane, Rec
 ghost use Rattle.smol_meaning.specs.Folds.{IsSheet};
 ghost use Rattle.smol_sheets.specs.Sheets.{stand_of};
 
+use crate::boxes::{cells_of, limited};
 use crate::sheet::{Stand, stand_of};
+use smol_cells::{Cells, Touching};
+use smol_geom::Cuboid;
 use smol_meaning::Sheet;
 use smol_types::{Config, Panel, Wall};
 use std::alloc::{AllocError, Global};
@@ -19,27 +22,36 @@ pub struct Panels<'a> {
     sheets: Vec<Sheet>,
     // The axis and the plane of each, in the same order. A molecule that meets nothing looks at these alone.
     stands: Vec<Stand>,
+    // Which panels are in which boxes.
+    cells: Cells,
 }
 
 impl<'a> Model for Panels<'a> {
     ghost use Rattle.std.specs.Prelude.{◌≡◌, map};
     ghost use Rattle.smol_types.specs.declared.draft.Draft.{Draft};
     ghost use Rattle.smol_types.specs.Sound.{IsSound};
-    ghost use Rattle.smol_sheets.specs.Sheets.{sheets_of, stand_of};
+    ghost use Rattle.smol_cells.specs.Kept.{AreOf};
+    ghost use Rattle.smol_cells.specs.Numbered.{boxes_of_rect};
+    ghost use Rattle.smol_sheets.specs.Sheets.{rect_of, sheets_of, stand_of};
 
     ghost Value = { Draft };
 
     ghost view = { λ panels. panels.config.now };
 
     ghost invariant = { λ panels. IsSound panels.config.now × (panels.sheets.items ≡ sheets_of panels.config.now)
-        × (panels.stands.items ≡ map stand_of (sheets_of panels.config.now)) };
+        × (panels.stands.items ≡ map stand_of (sheets_of panels.config.now))
+        × AreOf (map (boxes_of_rect panels.cells.grid) (map rect_of panels.config.now.panels)) panels.cells };
 }
 
 impl<'a> Panels<'a> {
-    ghost use Rattle.std.specs.Prelude.{◌≡◌, ◌+◌, All, IfOk, length, map};
+    ghost use Rattle.std.specs.Prelude.{◌≡◌, ℕ, ◌^◌, ◌<◌, ◌+◌, All, Contains, IfOk, Some, length, map, slice_get};
+    ghost use Rattle.smol_geom.specs.Axes.{IsWithin};
     ghost use Rattle.smol_types.specs.Sound.{IsSound};
+    ghost use Rattle.smol_cells.specs.Numbered.{IsFilled};
+    ghost use Rattle.smol_cells.specs.TouchingLeft.{touching_left};
+    ghost use Rattle.smol_meaning.specs.declared.sheet.Sheet.{Sheet};
     ghost use Rattle.smol_meaning.specs.Folds.{IsSheet};
-    ghost use Rattle.smol_sheets.specs.Sheets.{sheets_of, stand_of};
+    ghost use Rattle.smol_sheets.specs.Sheets.{IsReached, sheets_of, stand_of};
 
     /// The panels and walls of a configuration.
     pub fn of(alloc: Global, config: &'a Config) -> Result<Panels<'a>, AllocError>
@@ -47,10 +59,12 @@ impl<'a> Panels<'a> {
     {
         let sheets = all_sheets(alloc, config.panels(), config.walls())?;
         let stands = all_stands(alloc, sheets.as_slice())?;
+        let cells = cells_of(alloc, config.panels())?;
         Ok(Panels {
             config,
             sheets,
             stands,
+            cells,
         })
     }
 
@@ -77,6 +91,19 @@ impl<'a> Panels<'a> {
         ensures { result.now ≡ map stand_of (sheets_of self.now) }
     {
         self.stands.as_slice()
+    }
+
+    /// The numbers of panels near a cuboid, in ticks: those of all that it meets, and of others. They come in no order and with repeats.
+    /// Takes no memory.
+    pub fn touching(&self, c: &Cuboid) -> Touching<'_>
+        requires low { IsWithin (2 ^ 60) c.now.low }
+        requires high { IsWithin (2 ^ 60) c.now.high }
+        requires filled { IsFilled c.now }
+        ensures known { All (λ (number : ℕ). number < length self.now.panels) (touching_left result) }
+        ensures near { (number : ℕ) (sheet : Sheet) → number < length self.now.panels → slice_get (sheets_of self.now) number ≡ Some sheet
+            → IsReached c.now sheet → Contains (touching_left result) number }
+    {
+        self.cells.touching(&limited(c))
     }
 }
 

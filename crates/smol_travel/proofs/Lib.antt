@@ -1,7 +1,7 @@
 mod Deciding
 mod Jumps
+mod Looking
 mod Meets
 mod Span
-mod Scan
 mod Ticks
 mod Walking

@@ -1,17 +1,29 @@
 -- Between which coordinates a move is, and that nothing outside of that is met.
-use Rattle.std.proofs.Common.{⊎_elim, ◌≡◌, ℕ, ◌<◌, ◌↔◌, Bool, true, false, IsTrue, ◌⊎◌, inl, inr, List, refl, sym, ◌∙◌, subst, arith, ℤ, pos, negsuc, ◌+ℤ◌, ◌*ℤ◌, ◌≤ℤ◌, unsigned_abs}
-use Rattle.std.proofs.lemmas.Bool.{both_ways, lt-ltb}
+use Rattle.std.proofs.Common.{⊎_elim, ◌≡◌, ℕ, ◌^◌, ◌<◌, ◌≤◌, ◌==◌, ◌↔◌, Bool, true, false, IsTrue, ◌⊎◌, inl, inr, refl, sym, ◌∙◌, ap, subst, arith, ℤ, pos, negsuc, ◌+ℤ◌, ◌-ℤ◌, ◌*ℤ◌, ◌≤ℤ◌, unsigned_abs}
+use Rattle.std.proofs.lemmas.Bool.{and_parts, both_ways, lt-ltb}
 use Rattle.std.proofs.lemmas.Int.{ints}
+use Rattle.smol_geom.specs.declared.cuboid.Cuboid.{Cuboid}
 use Rattle.smol_geom.specs.declared.moment.Moment.{Moment}
-use Rattle.smol_geom.specs.Axes.{on_axis, EachAxis}
-use Rattle.smol_geom.specs.Fold.{IsSign}
+use Rattle.smol_geom.specs.Axes.{on_axis, EachAxis, IsWithin}
+use Rattle.smol_geom.specs.Fold.{IsSign, true_point}
+use Rattle.smol_geom.specs.Fraction.{whole, ◌≤ℚ◌}
+use Rattle.smol_geom.specs.Line.{part_way}
+use Rattle.smol_geom.specs.Moment.{part_of}
 use Rattle.smol_geom.specs.Moments.{IsMoment, coordinate_from, coordinate_after, ticks}
 use Rattle.smol_geom.proofs.EachAxis.{at_axis}
+use Rattle.smol_geom.proofs.Integers.{mul-add_right}
+use Rattle.smol_cells.specs.Numbered.{IsFilled}
 use Rattle.smol_meaning.specs.declared.sheet.Sheet.{Sheet}
+use Rattle.smol_meaning.specs.declared.sheet.Sheet.TheVariants.{Rectangle, Plane}
 use Rattle.smol_meaning.specs.Folds.{IsSheet}
-use Rattle.smol_meaning.specs.Plates.{sheet_axis, sheet_plane}
+use Rattle.smol_meaning.specs.Plates.{is_in_rect, sheet_axis, sheet_plane}
+use Rattle.smol_meaning.specs.Way.{end_on}
+use Rattle.smol_meaning.proofs.Planes.{point_is}
+use Rattle.smol_meaning.proofs.Responses.{holds_is}
+use Rattle.smol_sheets.specs.Sheets.{IsReached}
+use Rattle.smol_sheets.proofs.Stretches.{high_meets, low_meets}
 use Rattle.smol_travel.specs.declared.leg.Leg.{Leg}
-use Rattle.smol_travel.specs.Legs.{IsBetween, IsLeg, IsSpan, meets, plane_on}
+use Rattle.smol_travel.specs.Legs.{IsBetween, IsLeg, IsOnAxis, IsSpan, meets, plane_on, start_on}
 use Rattle.smol_travel.proofs.Meets.{met_at}
 
 -- ticks strictly within a way lead between its ends
@@ -66,20 +78,74 @@ module _ (s start way shift first last : ℤ) (sign : IsSign s) (first_is : firs
   ends_down order = in_order _ _ _ order (either_way _ _ _ ends)
 
 -- on an axis, all that ticks strictly within the move lead to is between the two
-abbrev pub SpansOn : Leg → List ℤ → List ℤ → ℕ → Type 0
-SpansOn leg low high axis =
+abbrev pub SpansOn : Leg → Cuboid → ℕ → Type 0
+SpansOn leg c axis =
     (n : ℕ) → 0 < n → n < ticks leg.by axis
-    → IsBetween (on_axis low axis) (on_axis high axis) (on_axis leg.fold.sign axis *ℤ coordinate_after leg.from leg.by axis n +ℤ on_axis leg.fold.shift axis)
+    → IsBetween (on_axis c.low axis) (on_axis c.high axis) (on_axis leg.fold.sign axis *ℤ coordinate_after leg.from leg.by axis n +ℤ on_axis leg.fold.shift axis)
 
-pub span_from : (leg : Leg) (low high : List ℤ) → EachAxis (SpansOn leg low high) → IsSpan leg low high
-span_from leg low high each =
-    record { between = λ m is. at_axis (SpansOn leg low high) m.axis is.axis each m.num is.begun (omega (arith, is.unfinished, is.den)) }
+pub spans_all : (leg : Leg) (c : Cuboid) → EachAxis (SpansOn leg c) → (m : Moment) → IsMoment leg.from leg.by m
+    → IsBetween (on_axis c.low m.axis) (on_axis c.high m.axis) (plane_on leg m)
+spans_all leg c each m is =
+    at_axis (SpansOn leg c) m.axis is.axis each m.num is.begun (omega (arith, is.unfinished, is.den))
 
 -- a sheet whose plane is outside the span is never met
-pub never_met : (leg : Leg) (low high : List ℤ) (sheet : Sheet) (axis : ℕ) (plane : ℤ) (t : Bool) → IsSheet sheet → IsLeg leg → IsSpan leg low high
-    → axis ≡ sheet_axis sheet → plane ≡ sheet_plane sheet → (IsTrue t ↔ IsBetween (on_axis low axis) (on_axis high axis) plane) → t ≡ false
+pub never_met : (leg : Leg) (c : Cuboid) (sheet : Sheet) (axis : ℕ) (plane : ℤ) (t : Bool) → IsSheet sheet → IsLeg leg → IsSpan leg c
+    → axis ≡ sheet_axis sheet → plane ≡ sheet_plane sheet → (IsTrue t ↔ IsBetween (on_axis c.low axis) (on_axis c.high axis) plane) → t ≡ false
     → (m : Moment) → IsMoment leg.from leg.by m → meets leg m sheet ≡ true → ⊥
-never_met leg low high sheet axis plane t fits is_leg span across there says out m is met =
+never_met leg c sheet axis plane t fits is_leg span across there says out m is met =
     let at = met_at leg is_leg m is sheet fits met in
-    let within = subst (λ k. IsBetween (on_axis low k) (on_axis high k) (plane_on leg m)) (at.0 ∙ sym across) (span.between m is) in
-    both_ways t out (says.1 (subst (λ z. IsBetween (on_axis low axis) (on_axis high axis) z) (at.1 ∙ sym there) within))
+    let within = subst (λ k. IsBetween (on_axis c.low k) (on_axis c.high k) (plane_on leg m)) (at.0 ∙ sym across) (span.between m is) in
+    both_ways t out (says.1 (subst (λ z. IsBetween (on_axis c.low axis) (on_axis c.high axis) z) (at.1 ∙ sym there) within))
+
+le_trans : (a b c : ℤ) → a ≤ℤ b → b ≤ℤ c → a ≤ℤ c
+le_trans a b c ab bc = omega (arith, ints)
+
+-- the folded way leads from the folded start to the folded end
+ends_apart : (s a w h : ℤ) → (s *ℤ (a +ℤ w) +ℤ h) -ℤ (s *ℤ a +ℤ h) ≡ s *ℤ w
+ends_apart s a w h = let spread = mul-add_right s a w in omega (arith, ints, spread)
+
+-- on an axis, a range that has the true coordinate at a moment meets the span
+module _ (leg : Leg) (c : Cuboid) (span : IsSpan leg c) (m : Moment) (is : IsMoment leg.from leg.by m) where
+  some : 0 < m.den
+  some = omega (arith, is.begun, is.unfinished)
+
+  within : m.num ≤ m.den
+  within = omega (arith, is.unfinished)
+
+  point : (j : ℕ) → true_point leg.fold leg.from leg.by (part_of m) j
+      ≡ part_way (start_on leg j) (end_on leg.from leg.by leg.fold j -ℤ start_on leg j) (part_of m)
+  point j =
+      sym (point_is leg.from leg.by leg.fold m j)
+      ∙ ap (λ z. part_way (start_on leg j) z (part_of m)) (sym (ends_apart (on_axis leg.fold.sign j) (on_axis leg.from.0 j) (on_axis leg.by.0 j) (on_axis leg.fold.shift j)))
+
+  range_meets : (j : ℕ) (low high : ℤ) → IsOnAxis c j (start_on leg j) → IsOnAxis c j (end_on leg.from leg.by leg.fold j)
+      → whole low ≤ℚ true_point leg.fold leg.from leg.by (part_of m) j → true_point leg.fold leg.from leg.by (part_of m) j ≤ℚ whole high
+      → (low ≤ℤ on_axis c.high j) × (on_axis c.low j ≤ℤ high)
+  range_meets j low high start end above below = (
+    low_meets (part_of m) some m.num refl within (start_on leg j) (end_on leg.from leg.by leg.fold j) low (on_axis c.high j)
+        (subst (λ x. whole low ≤ℚ x) (point j) above) start.1 end.1,
+    high_meets (part_of m) some m.num refl within (start_on leg j) (end_on leg.from leg.by leg.fold j) high (on_axis c.low j)
+        (subst (λ x. x ≤ℚ whole high) (point j) below) start.0 end.0,
+  )
+
+  -- a sheet that is met at a moment is reached by the span
+  pub span_reaches : (sheet : Sheet) → meets leg m sheet ≡ true → IsReached c sheet
+  span_reaches (Plane axis plane) met = tt
+  span_reaches (Rectangle rect) met =
+      let held = holds_is rect (true_point leg.fold leg.from leg.by (part_of m)) (and_parts (rect.axis == m.axis) (is_in_rect rect (true_point leg.fold leg.from leg.by (part_of m))) met).1 in (
+        range_meets 0 (on_axis rect.low 0) (on_axis rect.high 0) span.start.0 span.end.0 held.0.low held.0.high,
+        range_meets 1 (on_axis rect.low 1) (on_axis rect.high 1) span.start.1 span.end.1 held.1.low held.1.high,
+        range_meets 2 (on_axis rect.low 2) (on_axis rect.high 2) span.start.2 span.end.2 held.2.low held.2.high,
+      )
+
+-- the span has points
+pub span_filled : (leg : Leg) (c : Cuboid) → IsSpan leg c → IsFilled c
+span_filled leg c span =
+    (le_trans _ (start_on leg 0) _ span.start.0.0 span.start.0.1, le_trans _ (start_on leg 1) _ span.start.1.0 span.start.1.1, le_trans _ (start_on leg 2) _ span.start.2.0 span.start.2.1)
+
+-- it isn't far out
+pub span_small : (leg : Leg) (c : Cuboid) → IsSpan leg c → IsWithin (2 ^ 60) c.low × IsWithin (2 ^ 60) c.high
+span_small leg c span = (
+  (omega (arith, span.low.0), omega (arith, span.low.1), omega (arith, span.low.2)),
+  (omega (arith, span.high.0), omega (arith, span.high.1), omega (arith, span.high.2)),
+)

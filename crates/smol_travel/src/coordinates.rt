@@ -2,7 +2,7 @@
 ghost use Rattle.std.specs.Prelude.{◌≡◌, ◌↔◌, ℕ, ◌<◌, ◌≤◌, ◌+◌, ◌^◌, IfSome, IsTrue, int_lt, neg_ℤ, ◌*ℤ◌, ◌-ℤ◌, ◌+ℤ◌, pos, unsigned_abs};
 ghost use Rattle.smol_geom.specs.Fold.{IsSign};
 ghost use Rattle.smol_geom.specs.Moments.{coordinate_from};
-ghost use Rattle.smol_travel.specs.Legs.{IsBetween};
+ghost use Rattle.smol_travel.specs.Legs.{IsBetween, IsFromTo};
 ghost use Rattle.smol_travel.specs.Meetings.{IsSameWay};
 
 // How many ticks of a way lead from its start to a coordinate strictly within it.
@@ -108,7 +108,8 @@ pub fn end_on(sign: i8, start: i64, way: i64, shift: i64) -> i64
     requires start { unsigned_abs start ≤ 2 ^ 57 }
     requires way { unsigned_abs way ≤ 2 ^ 34 }
     requires shift { unsigned_abs shift ≤ 2 ^ 58 }
-    ensures { result ≡ sign *ℤ (start +ℤ way) +ℤ shift }
+    ensures value { result ≡ sign *ℤ (start +ℤ way) +ℤ shift }
+    ensures size { unsigned_abs result ≤ 2 ^ 59 }
 {
     folded(sign, way_end(start, way), shift)
 }
@@ -119,8 +120,12 @@ pub fn ends_on(sign: i8, start: i64, way: i64, shift: i64) -> (i64, i64)
     requires start { unsigned_abs start ≤ 2 ^ 57 }
     requires way { unsigned_abs way ≤ 2 ^ 34 }
     requires shift { unsigned_abs shift ≤ 2 ^ 58 }
-    ensures { (n : ℕ) → 0 < n → n < unsigned_abs way
+    ensures between { (n : ℕ) → 0 < n → n < unsigned_abs way
         → IsBetween result.0 result.1 (sign *ℤ coordinate_from start way n +ℤ shift) }
+    ensures first { IsFromTo result.0 result.1 (sign *ℤ start +ℤ shift) }
+    ensures last { IsFromTo result.0 result.1 (sign *ℤ (start +ℤ way) +ℤ shift) }
+    ensures low { unsigned_abs result.0 ≤ 2 ^ 59 }
+    ensures high { unsigned_abs result.1 ≤ 2 ^ 59 }
 {
     let first = folded(sign, start, shift);
     let last = end_on(sign, start, way, shift);

@@ -6,7 +6,7 @@ ghost use Rattle.smol_meaning.specs.Way.{end_place};
 ghost use Rattle.smol_travel.specs.Legs.{IsLeg, IsSpan, plane_on};
 
 use crate::coordinates::{coordinate_from, end_on, ends_on, folded, is_up};
-use smol_geom::{Fold, Moment, Place, Step3};
+use smol_geom::{Cuboid, Fold, Moment, Place, Step3};
 
 // A leg of a way: a move from a place by a displacement, folded so as the panels and walls met so far leave it.
 #[derive(Clone, Copy)]
@@ -16,14 +16,6 @@ pub struct Leg {
     pub fold: Fold,
 }
 
-// The coordinates between which a leg is on each axis. They are found once for a scan: of the many panels and walls that are outside,
-// nothing but the axis and the plane is looked at then.
-#[derive(Clone, Copy)]
-pub struct Span {
-    pub low: [i64; 3],
-    pub high: [i64; 3],
-}
-
 // Whether the displacement is 0 on every axis. Such a move has no moments: no coordinate changes.
 pub fn is_still(by: &Step3) -> bool
     ensures { IsTrue result ↔ EachAxis (λ axis. on_axis by.now.0 axis ≡ pos 0) }
@@ -31,16 +23,17 @@ pub fn is_still(by: &Step3) -> bool
     by.0[0] == 0 && by.0[1] == 0 && by.0[2] == 0
 }
 
-// The coordinates that the fold carries the move's ends to.
-pub fn span_of(leg: &Leg) -> Span
+// The span of a leg: the least cuboid that has where the fold carries the move's ends to, and so the leg. It is found once for all
+// panels and walls.
+pub fn span_of(leg: &Leg) -> Cuboid
     requires { IsLeg leg.now }
-    ensures { IsSpan leg.now result.low result.high }
+    ensures { IsSpan leg.now result }
 {
     let Leg { from, by, fold } = leg;
     let x = ends_on(fold.sign[0], from.0[0], by.0[0], fold.shift[0]);
     let y = ends_on(fold.sign[1], from.0[1], by.0[1], fold.shift[1]);
     let z = ends_on(fold.sign[2], from.0[2], by.0[2], fold.shift[2]);
-    Span {
+    Cuboid {
         low: [x.0, y.0, z.0],
         high: [x.1, y.1, z.1],
     }

@@ -1,18 +1,20 @@
 //! When panels and walls are met.
-ghost use Rattle.std.specs.Prelude.{◌≡◌, ◌↔◌, ◌<◌, ◌≤◌, ◌^◌, IfSome, IsTrue, Some, true, unsigned_abs};
+ghost use Rattle.std.specs.Prelude.{◌≡◌, ◌↔◌, ℕ, ◌+◌, ◌<◌, ◌≤◌, ◌^◌, [], ◌∷◌, IfSome, IsTrue, List, Some, false, length, true, unsigned_abs};
 ghost use Rattle.smol_geom.specs.declared.moment.Moment.{Moment};
 ghost use Rattle.smol_geom.specs.Axes.{IsEven, on_axis};
 ghost use Rattle.smol_geom.specs.Moments.{IsMoment, is_before};
 ghost use Rattle.smol_types.specs.Sound.{IsSound};
 ghost use Rattle.smol_meaning.specs.Folds.{IsSheet};
 ghost use Rattle.smol_meaning.specs.Plates.{sheet_axis, sheet_plane};
-ghost use Rattle.smol_sheets.specs.Sheets.{sheets_of, stand_of};
+ghost use Rattle.smol_sheets.specs.Sheets.{sheets_of};
+ghost use Rattle.smol_travel.specs.declared.leg.Leg.{Leg};
 ghost use Rattle.smol_travel.specs.Legs.{IsBetween, IsLeg, IsSpan, meets, plane_on};
+ghost use Rattle.smol_travel.specs.Looked.{IsNeverMet, IsNextBut};
 ghost use Rattle.smol_travel.specs.Meetings.{ComesLater, IsNext, sooner_of};
 
 use crate::coordinates::{ticks_to, unfolded};
-use crate::leg::{Leg, Span, is_still, span_of};
-use smol_geom::{Moment, holds_at, moment_before};
+use crate::leg::{Leg, is_still, span_of};
+use smol_geom::{Cuboid, Moment, holds_at, moment_before};
 use smol_meaning::Sheet;
 use smol_sheets::{Panels, Stand, across};
 
@@ -22,19 +24,68 @@ pub fn next_meeting(panels: &Panels, leg: &Leg, last: &Moment) -> Option<Moment>
     ensures next { IsNext (sheets_of panels.now) leg.now last.now result }
     ensures sound { IsSound panels.now }
 {
-    let sheets = panels.sheets();
+    let config = panels.config();
     // A molecule that stands still meets nothing, however many panels and walls there are.
     if is_still(&leg.by) {
         return None;
     }
     let span = span_of(leg);
-    let mut next: Option<Moment> = None;
-    for (number, stand) in panels.stands().iter().enumerate() {
-        if let Some(met) = meeting_in_span(stand, &sheets[number], &span, leg, last) {
-            next = Some(earlier(next, met));
+    let mut next = next_panel(panels, &span, leg, last);
+    for number in config.panels().len()..panels.sheets().len() {
+        if is_within(panels, number, &span) {
+            next = sooner(panels, number, leg, last, next);
         }
     }
     next
+}
+
+// The first meeting with a panel. Each panel that is met is near the span.
+fn next_panel(panels: &Panels, span: &Cuboid, leg: &Leg, last: &Moment) -> Option<Moment>
+    requires span { IsSpan leg.now span.now }
+    requires leg { IsLeg leg.now }
+    ensures { IsNextBut panels.now leg.now last.now (length panels.now.panels) [] result }
+{
+    if panels.config().panels().is_empty() {
+        return None;
+    }
+    let mut next = None;
+    for number in panels.touching(span) {
+        if is_within(panels, number, span) {
+            next = sooner(panels, number, leg, last, next);
+        }
+    }
+    next
+}
+
+// Whether the panel or wall of a number stands within a span. Of one outside, which is never met, nothing but the axis and the plane is
+// looked at.
+fn is_within(panels: &Panels, number: usize, span: &Cuboid) -> bool
+    requires number { number < length panels.now.panels + length panels.now.walls }
+    requires sound { IsSound panels.now }
+    ensures { (leg : Leg) → IsLeg leg → IsSpan leg span.now → result ≡ false → IsNeverMet panels.now leg number }
+{
+    is_in_span(span, &panels.stands()[number])
+}
+
+// The next meeting so far, or that with the panel or wall of a number, where it comes before.
+fn sooner(
+    panels: &Panels,
+    number: usize,
+    leg: &Leg,
+    last: &Moment,
+    next: Option<Moment>,
+) -> Option<Moment>
+    requires number { number < length panels.now.panels + length panels.now.walls }
+    requires leg { IsLeg leg.now }
+    ensures { (bound : ℕ) (left : List ℕ)
+        → IsNextBut panels.now leg.now last.now bound (number ∷ left) next → IsNextBut panels.now leg.now last.now bound left result }
+{
+    let sheets = panels.sheets();
+    if let Some(met) = meeting(&sheets[number], leg, last) {
+        Some(earlier(next, met))
+    } else {
+        next
+    }
 }
 
 // The earlier of two moments.
@@ -60,30 +111,8 @@ fn comes_before(a: &Moment, b: &Moment) -> bool
     moment_before(a, b)
 }
 
-// The meeting with a panel or a wall, where it stands within the span. One outside isn't met, nor looked at further.
-fn meeting_in_span(
-    stand: &Stand,
-    sheet: &Sheet,
-    span: &Span,
-    leg: &Leg,
-    last: &Moment,
-) -> Option<Moment>
-    requires stand { stand.now ≡ stand_of sheet.now }
-    requires sheet { IsSheet sheet.now }
-    requires span { IsSpan leg.now span.now.low span.now.high }
-    requires leg { IsLeg leg.now }
-    ensures later { IfSome result (λ m. ComesLater leg.now last.now m) }
-    ensures only { (m : Moment) → ComesLater leg.now last.now m → meets leg.now m sheet.now ≡ true → result ≡ Some m }
-{
-    if is_in_span(span, stand) {
-        meeting(sheet, leg, last)
-    } else {
-        None
-    }
-}
-
 // Whether a plane across an axis is within the span.
-fn is_in_span(span: &Span, stand: &Stand) -> bool
+fn is_in_span(span: &Cuboid, stand: &Stand) -> bool
     requires { stand.now.axis < 3 }
     ensures { IsTrue result ↔ IsBetween (on_axis span.now.low stand.now.axis) (on_axis span.now.high stand.now.axis) stand.now.plane }
 {

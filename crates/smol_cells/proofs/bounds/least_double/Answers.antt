@@ -1,6 +1,6 @@
 use Rattle.std.proofs.Common.{◌≡◌, ◌<◌, ◌≤◌, true, false, refl, ⊎_elim, arith}
 use Rattle.std.proofs.lemmas.Bool.{cases_lt}
-use Rattle.smol_cells.specs.Bounds.{boxes_in}
+use Rattle.smol_cells.specs.Bounds.{boxes_in, most_boxes}
 use Rattle.smol_cells.proofs.Doubles.{double_first, double_more, least_of_double, short_of_many}
 use Rattle.smol_cells.proofs.bounds.least_double.Goals as goal
 
@@ -15,10 +15,10 @@ pub loop-doubled-preserved : goal.loop-doubled-preserved
 loop-doubled-preserved c =
     let bounds = c.args.bounds.now in
     let edge = c.loop-doubled.doubled in
-    let many : 1048576 < boxes_in bounds edge = ⊎_elim
-    (λ (many : 1048576 < boxes_in bounds edge). many)
-    (λ (few : boxes_in bounds edge ≤ 1048576). let none : false ≡ true = c.loop-doubled-test.ensures.1 few in cc)
-    (cases_lt 1048576 (boxes_in bounds edge)) in
+    let many : most_boxes < boxes_in bounds edge = ⊎_elim
+    (λ (many : most_boxes < boxes_in bounds edge). many)
+    (λ (few : boxes_in bounds edge ≤ most_boxes). let none : false ≡ true = c.loop-doubled-test.ensures.1 few in cc)
+    (cases_lt most_boxes (boxes_in bounds edge)) in
     let short = short_of_many bounds edge c.requires.low c.requires.high many in
     record {
       double = double_more bounds c.args.edge edge c.loop-doubled.invariant.double many;

@@ -1,18 +1,16 @@
-use Rattle.std.proofs.Common.{arith}
-use Rattle.smol_travel.proofs.Deciding.{best_past, best_same, best_met}
+use Rattle.std.proofs.Common.{[], ◌+◌, arith}
+use Rattle.smol_travel.proofs.Deciding.{best_more, best_of_all}
+use Rattle.smol_travel.proofs.Looking.{count_is}
+use Rattle.smol_sheets.proofs.Numbered.{sheet_count}
 use Rattle.smol_travel.proofs.decision.decision.Goals as goal
 
-pub loop-k-init : goal.loop-k-init
-loop-k-init c =
-    best_past c.args.panels.now c.args.leg.now c.args.moment.now c.args.species c.sheets-sheets.result.now c.sheets-sheets.ensures.value c.requires.species
+pub loop-number-preserved : goal.loop-number-preserved
+loop-number-preserved c =
+    c.better-best.ensures (c.loop-number.number + 1) []
+    (best_more c.args.panels.now c.args.leg.now c.args.moment.now c.args.species c.loop-number.number c.loop-number.best c.loop-number.invariant)
 
-pub loop-k-preserved : goal.loop-k-preserved
-loop-k-preserved c =
-    best_same c.args.panels.now c.args.leg.now c.args.moment.now c.args.species c.sheets-sheets.result.now c.sheets-sheets.ensures.value c.loop-k.k _ c.loop-k.best c.is_met.result
-    (omega (arith, c.loop-k-test.true)) (omega (arith, c.loop-k.auto.k)) c.is_met.ensures c.loop-k.invariant c.if-is_met.false
-
-pub loop-k-preserved-then-is_met : goal.loop-k-preserved-then-is_met
-loop-k-preserved-then-is_met c =
-    best_met c.args.panels.now c.args.leg.now c.args.moment.now c.args.species c.sheets-sheets.result.now c.sheets-sheets.ensures.value c.loop-k.k _ c.loop-k.best c.is_met.result
-    (omega (arith, c.loop-k-test.true)) (omega (arith, c.loop-k.auto.k)) c.is_met.ensures c.loop-k.invariant c.if-is_met.true
-    c.first_of-best.result c.effect.result c.goes_up-up.result c.goes_up-up.ensures c.effect.ensures.value c.effect.ensures.known c.first_of-best.ensures
+pub returns-clause-value : goal.returns-clause-value
+returns-clause-value c =
+    let draft = c.args.panels.now in
+    best_of_all draft c.args.leg.now c.args.moment.now c.args.species c.loop-number.number c.loop-number.best
+    (omega (arith, count_is draft, sheet_count draft, c.loop-number-test.false, c.sheets-number-end.ensures.count)) c.loop-number.invariant

@@ -5,7 +5,7 @@ use Rattle.smol_geom.specs.declared.moment.Moment.{Moment}
 use Rattle.smol_geom.specs.Moments.{is_before}
 use Rattle.smol_travel.specs.Legs.{meets}
 use Rattle.smol_travel.proofs.Meets.{met_at}
-use Rattle.smol_travel.proofs.Scan.{some_or}
+use Rattle.smol_travel.proofs.Looking.{some_or}
 use Rattle.smol_travel.proofs.meeting.meeting.Goals as goal
 use Rattle.smol_travel.proofs.meeting.meeting.Goals.{else-comes_before-via-then-comes_before+else-is_within_edges, else-comes_before-via-else-comes_before}
 
