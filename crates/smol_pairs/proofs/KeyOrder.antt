@@ -5,7 +5,7 @@ use Rattle.std.proofs.lemmas.List.{map-append}
 use Rattle.smol_types.specs.declared.draft.Draft.{Draft}
 use Rattle.smol_types.specs.declared.reaction.Reaction.{Reaction}
 use Rattle.smol_types.specs.declared.state.Mol.{Mol}
-use Rattle.smol_meaning.specs.Encounters.{Encounter, encounters_of, encounters_from, encounters_with, encounters_of_two, may_react}
+use Rattle.smol_meaning.specs.Encounters.{Encounter, encounters_from, encounters_with, encounters_of_two, may_react}
 use Rattle.smol_meaning.specs.Events.{is_free}
 use Rattle.smol_pairs.specs.Rising.{Rises}
 use Rattle.smol_pairs.specs.Encounters.{ranks_of}
@@ -66,8 +66,7 @@ module _ (draft : Draft) (seed k : ℕ) where
         (rises_within (key_at (rank + 1) 0 0) (key_at (rank + 1) 0 0) (key_at (rank + 1 + length mols) 0 0) (key_at (rank + length (a ∷ mols)) 0 0)
         (map number_of there) (omega arith) (omega arith) (from_rise (rank + 1) mols (omega arith)))
 
-    -- the keys of all encounters rise
-    pub keys_rise : (mols : List Mol) → length mols ≤ 1048576 → Rises 0 (key_at (length mols) 0 0) (map number_of (encounters_of draft seed k mols))
-    unfolding encounters_of
+    -- the keys of all encounters rise, where they are listed by the serials
+    pub keys_rise : (mols : List Mol) → length mols ≤ 1048576 → Rises 0 (key_at (length mols) 0 0) (map number_of (encounters_from draft seed k 0 mols))
     keys_rise mols few_mols = rises_within (key_at 0 0 0) 0 (key_at (0 + length mols) 0 0) (key_at (length mols) 0 0)
         (map number_of (encounters_from draft seed k 0 mols)) (omega arith) (omega arith) (from_rise 0 mols (omega arith))

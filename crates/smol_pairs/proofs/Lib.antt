@@ -2,8 +2,10 @@ pub mod AllMet
 pub mod Distances
 pub mod KeyMembers
 pub mod KeyOrder
+pub mod ListingOrder
 pub mod KeysFound
 pub mod LongestReach
+pub mod Measuring
 pub mod Meetings
 pub mod Members
 pub mod MetLemmas

@@ -5,15 +5,17 @@ use Rattle.std.proofs.lemmas.List.{map-append}
 use Rattle.std.specs.Option.{option_map_or}
 use Rattle.std.proofs.lemmas.Option.{slice_get_within}
 use Rattle.std.proofs.lemmas.List.Elements.{All-nil, All-cons, All-append, All-head, All-map, All-tail, All-weaker, Contains-append_left, Contains-append_right, Contains-push}
+use Rattle.std.proofs.lemmas.List.Sorted.{All-permutation, IsPermutation-map}
 use Rattle.smol_types.specs.declared.draft.Draft.{Draft}
 use Rattle.smol_types.specs.declared.reaction.Reaction.{Reaction}
 use Rattle.smol_types.specs.declared.state.Mol.{Mol}
 use Rattle.smol_types.specs.State.{Ascend}
 use Rattle.smol_plan.specs.declared.pair.Pair.{Pair}
 use Rattle.smol_plan.specs.Pair.{IsOrdered}
-use Rattle.smol_meaning.specs.Encounters.{Encounter, candidates_of, encounters_from, encounters_of, encounters_of_two, encounters_with, may_react, pair_of}
+use Rattle.smol_meaning.specs.Encounters.{Encounter, candidates_of, encounters_from, encounters_of, encounters_of_two, encounters_with, listed, may_react, pair_of}
 use Rattle.smol_meaning.specs.Events.{is_free}
 use Rattle.smol_meaning.specs.Meeting.{IsEncounter}
+use Rattle.smol_meaning.proofs.Listing.{listed_moves}
 use Rattle.smol_meaning.proofs.Meeting.{encounters_are}
 use Rattle.smol_pairs.specs.Encounters.{AreRanksIn, pair_at, ranks_of}
 use Rattle.smol_pairs.specs.Moved.{IsAmong, free_serials}
@@ -68,10 +70,14 @@ module _ (draft : Draft) (seed k : ℕ) where
       left_out (is_free draft seed k a) _ _ (none_with rank a (rank + 1) mols (no_reach draft a.species (All-head There a mols are) none))
       (none_from (rank + 1) mols (All-tail There a mols are) none)
 
+  none_listed : (nearest : Bool) → listed nearest [] ≡ []
+  none_listed false = refl
+  none_listed true = refl
+
   pub no_encounters : (mols : List Mol) → All (λ (mol : Mol). mol.species < length draft.species) mols → longest_of (reaches_of draft) ≡ None
       → encounters_of draft seed k mols ≡ []
   unfolding encounters_of
-  no_encounters mols are none = none_from 0 mols are none
+  no_encounters mols are none = ap (listed draft.nearest) (none_from 0 mols are none) ∙ none_listed draft.nearest
 
   module _ (P : Pair → Type 0) where
     all_taken : (taken : Bool) (encounters : List Encounter) → (taken ≡ true → All P (map pair_of encounters))
@@ -124,6 +130,15 @@ module _ (draft : Draft) (seed k : ℕ) where
         (all_taken (is_free draft seed k a) (encounters_with draft seed k rank a (rank + 1) mols) (λ free. each_with rank a (rank + 1) mols (of.0 free)))
         (each_from (rank + 1) mols of.1)
 
+    -- the order in which they are listed changes nothing
+    each_listed : (mols : List Mol) → OfEachTwo mols → All P (candidates_of draft seed k mols)
+    unfolding encounters_of
+    each_listed mols of =
+        let serial = encounters_from draft seed k 0 mols in
+        let all = listed draft.nearest serial in
+        All-permutation P (map pair_of serial) (map pair_of all) (IsPermutation-map pair_of serial all (listed_moves draft.nearest serial))
+        (each_from 0 mols of)
+
   ascend_above : (low next : ℕ) (mols : List Mol) → Ascend low next mols → All (λ (mol : Mol). low ≤ mol.serial) mols
   ascend_above low next [] up = All-nil (λ (mol : Mol). low ≤ mol.serial)
   ascend_above low next (mol ∷ mols) up =
@@ -141,8 +156,7 @@ module _ (draft : Draft) (seed k : ℕ) where
 
   -- the lower serial comes first
   pub candidates_ordered : (low next : ℕ) (mols : List Mol) → Ascend low next mols → IsOrdered (candidates_of draft seed k mols)
-  unfolding encounters_of
-  candidates_ordered low next mols up = each_from (λ (pair : Pair). pair.a < pair.b) 0 mols (each_ordered low next mols up)
+  candidates_ordered low next mols up = each_listed (λ (pair : Pair). pair.a < pair.b) mols (each_ordered low next mols up)
 
   -- a molecule that made no reaction alone has one of the serials of those
   abbrev HasFree : List ℕ → Mol → Type 0
@@ -178,8 +192,7 @@ module _ (draft : Draft) (seed k : ℕ) where
 
   -- both molecules of a candidate made no reaction alone
   pub candidates_among : (mols : List Mol) → All (IsAmong draft seed k mols) (candidates_of draft seed k mols)
-  unfolding encounters_of
-  candidates_among mols = each_from (IsAmong draft seed k mols) 0 mols (each_among mols mols (each_free mols))
+  candidates_among mols = each_listed (IsAmong draft seed k mols) mols (each_among mols mols (each_free mols))
 
   -- the ranks of encounters are those of molecules of the list, the lower one first
   ranks_are : (e : Encounter) (mols : List Mol) → IsEncounter draft seed k mols e → AreRanksIn mols (ranks_of e)

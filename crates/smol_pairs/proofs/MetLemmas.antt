@@ -28,10 +28,16 @@ grown_more all one two three first second = record {
   sound = λ each. second.sound (first.sound each);
 }
 
-grown_append : (all old more : List Ranks) → All (Contains all) more → IsGrown all old (old ++ more)
+pub grown_append : (all old more : List Ranks) → All (Contains all) more → IsGrown all old (old ++ more)
 grown_append all old more each = record {
   kept = All-weaker (Contains old) (Contains (old ++ more)) (λ e has. Contains-append_left old more e has) old (All-contains_itself old);
   sound = λ olds. All-append (Contains all) old more olds each;
+}
+
+pub grown_behind : (all old more : List Ranks) → All (Contains all) more → IsGrown all old (more ++ old)
+grown_behind all old more each = record {
+  kept = All-weaker (Contains old) (Contains (more ++ old)) (λ e has. Contains-append_right more old e has) old (All-contains_itself old);
+  sound = λ olds. All-append (Contains all) more old each olds;
 }
 
 module _ (draft : Draft) (seed k : ℕ) (mols : List Mol) where

@@ -1,5 +1,6 @@
 pub mod Encounters
 pub mod Keys
+pub mod Listing
 pub mod Met
 pub mod Moved
 pub mod Near

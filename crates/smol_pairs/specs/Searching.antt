@@ -1,5 +1,5 @@
 -- The search of a step.
-use Rattle.std.specs.Prelude.{◌≡◌, ℕ, ◌<◌, ◌≤◌, ◌≤ℤ◌, List, map, slice_index}
+use Rattle.std.specs.Prelude.{◌≡◌, ℕ, ◌<◌, ◌≤◌, ◌≤ℤ◌, List, All, Contains, length, map, slice_index}
 use Rattle.smol_geom.specs.declared.place.Place.{Place}
 use Rattle.smol_geom.specs.declared.cuboid.Cuboid.{Cuboid}
 use Rattle.smol_geom.specs.Axes.{EachAxis, on_axis}
@@ -36,6 +36,16 @@ HaveMetIn search found i j = HaveMet search.panels.now search.seed search.k sear
 -- the seekers at two places in box order have met
 abbrev pub HaveMetAt : Search → List Ranks → ℕ → ℕ → Type 0
 HaveMetAt search found p q = HaveMetIn search found (seeker_at search.seekers.now p).rank (seeker_at search.seekers.now q).rank
+
+-- the seekers at the places from one up to another have met all that are behind them
+abbrev pub HaveMetFrom : Search → List Ranks → ℕ → ℕ → Type 0
+HaveMetFrom search found start end =
+    (p q : ℕ) → start ≤ p → p < end → p < q → q < length search.seekers.now → HaveMetAt search found p q
+
+-- these encounters are of the step, and among them are those of the seekers at the places from one up to another with all behind them
+pub record AreFound (search : Search) (start end : ℕ) (keys : List Ranks) : Type 0 where
+  pub sound : All (Contains (all_of search)) keys
+  pub met : HaveMetFrom search keys start end
 
 -- on an axis, the first and the last number of boxes side by side
 abbrev pub first_on : Boxes → ℕ → ℕ

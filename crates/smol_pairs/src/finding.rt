@@ -11,21 +11,22 @@ ghost use Rattle.smol_pairs.specs.Seekers.{IsSeeker, rank_of};
 use crate::encounter::Encounter;
 use crate::grid::grid_of;
 use crate::keys::Keys;
+use crate::listing::in_order;
+use crate::parts::look;
 use crate::reaches::Reaches;
-use crate::rows::look_from;
 use crate::search::Search;
 use crate::seeker::{Seeker, places_of, seekers_at, seekers_of};
 use smol_cells::in_box_order;
 use smol_sheets::Panels;
-use smol_streams::Streams;
 use smol_types::Mol;
 use std::alloc::{AllocError, Global};
 use std::thread::Threads;
 
-/// Which molecules may react in step k, by the lower serial, the higher one and the reaction. The molecules are those after the
-/// step's motion, and `free` says which of them made no reaction alone.
+/// Which molecules may react in step k, by the lower serial, the higher one and the reaction, and if the configuration asks for the
+/// nearest first, by distance before these. The molecules are those after the step's motion, and `free` says which of them made no
+/// reaction alone.
 pub fn encounters<R: Threads + Sync>(
-    _rt: &R,
+    rt: &R,
     alloc: Global,
     panels: &Panels,
     reaches: &Reaches,
@@ -45,13 +46,14 @@ pub fn encounters<R: Threads + Sync>(
         return Ok(Vec::new(alloc));
     };
     let seekers = seekers_of(alloc, reaches, mols, free)?;
-    let keys = keys_among(alloc, panels, mols, &seekers, reach, seed, k)?;
-    let found = keys.into_order(alloc)?;
+    let keys = keys_among(rt, alloc, panels, mols, &seekers, reach, seed, k)?;
+    let found = in_order(alloc, panels.config().nearest(), mols, keys)?;
     Ok(found)
 }
 
 // The encounters among seekers, in any order.
-fn keys_among(
+fn keys_among<R: Threads + Sync>(
+    rt: &R,
     alloc: Global,
     panels: &Panels,
     mols: &[Mol],
@@ -80,8 +82,5 @@ fn keys_among(
         seed,
         k,
     };
-    let mut streams = Streams::of_seed(seed);
-    let mut keys = Keys::new(alloc);
-    look_from(&search, &mut streams, 0..ordered.len(), &mut keys)?;
-    Ok(keys)
+    look(rt, alloc, &search)
 }

@@ -52,6 +52,14 @@ impl Keys {
         Ok(())
     }
 
+    /// Adds the encounters of another list.
+    pub fn append(&mut self, more: Keys) -> Result<(), AllocError>
+        ensures { OnOk result (self.new ≡ self.old ++ more) }
+    {
+        let mut numbers = more.numbers;
+        self.numbers.append(&mut numbers)
+    }
+
     /// The encounters by the lower rank, the higher one and the reaction, each once.
     pub fn into_order(self, alloc: Global) -> Result<Vec<Encounter>, AllocError>
         ensures rising { IfOk result (λ found. IsStrictlyIncreasing (map key_of found.items)) }

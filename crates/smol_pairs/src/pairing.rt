@@ -16,8 +16,9 @@ use smol_types::{Config, Mol};
 use std::alloc::{AllocError, Global};
 use std::thread::Threads;
 
-/// The pairs that may react in step k, by the lower serial, the higher one and the reaction. The molecules are those
-/// after the step's motion, and `free` says which of them made no reaction alone.
+/// The pairs that may react in step k, by the lower serial, the higher one and the reaction, and if the configuration asks for the
+/// nearest first, by distance before these. The molecules are those after the step's motion, and `free` says which of them made no
+/// reaction alone.
 pub fn candidates<R: Threads + Sync>(
     rt: &R,
     alloc: Global,

@@ -3,7 +3,7 @@ ghost use Rattle.std.specs.Prelude.{◌≡◌, ℕ, ◌+◌, ◌<◌, ◌≤◌,
 ghost use Rattle.smol_geom.specs.Axes.{EachAxis, IsWithin, on_axis};
 ghost use Rattle.smol_geom.specs.declared.place.Place.{Place};
 ghost use Rattle.smol_cells.specs.Numbers.{count_on};
-ghost use Rattle.smol_pairs.specs.Searching.{HaveMetAt, AreBoxesIn, IsGrownIn, IsIn, IsInBoxes, IsInLayer, place_in};
+ghost use Rattle.smol_pairs.specs.Searching.{HaveMetAt, HaveMetFrom, AreBoxesIn, IsGrownIn, IsIn, IsInBoxes, IsInLayer, place_in};
 
 use crate::keys::Keys;
 use crate::looking::look_along;
@@ -27,7 +27,7 @@ pub fn look_from(
     requires places { places.end ≤ length search.now.seekers.now }
     requires seed { streams.old ≡ search.now.seed }
     ensures grown { OnOk result (IsGrownIn search.now keys.old keys.new) }
-    ensures met { OnOk result ((p q : ℕ) → places.start ≤ p → p < places.end → p < q → q < length search.now.seekers.now → HaveMetAt search.now keys.new p q) }
+    ensures met { OnOk result (HaveMetFrom search.now keys.new places.start places.end) }
     ensures seed { streams.new ≡ streams.old }
 {
     for place in places.start..places.end {

@@ -1,3 +1,4 @@
 pub mod Advance
+pub mod Diffused
 pub mod Meeting
 pub mod Turns

@@ -18,8 +18,8 @@ ghost use Rattle.smol_step.specs.Advance.{IsAnswer, step_told};
 ghost use Rattle.smol_step.specs.Turns.{IsTurn};
 
 use crate::alone::react_alone;
-use crate::motion::diffuse;
 use crate::newborn::add_newborn;
+use crate::parts::diffuse;
 use crate::reacting::Reacting;
 use crate::removal::keep_free;
 use crate::setup::Setup;
@@ -112,8 +112,7 @@ fn stepped<R: Threads + Sync, G: Gate + Sync>(
         gate,
     };
     let mut mols = mols.into_vec();
-    let mut streams = Streams::of_seed(seed);
-    let reactions = diffuse(alloc, setup, &mut streams, turn.k, &mut mols)?;
+    let reactions = diffuse(rt, alloc, setup, seed, turn.k, &mut mols)?;
     reacted(rt, alloc, setup, &turn, mols, &reactions, next)
 }
 

@@ -6,6 +6,7 @@ mod alone;
 mod arrival;
 mod motion;
 mod newborn;
+mod parts;
 mod reacting;
 mod removal;
 mod setup;

@@ -1,17 +1,17 @@
 //! The motion of molecules in a step, and the word of each that comes with it.
-ghost use Rattle.std.specs.Prelude.{◌≡◌, ◌^◌, ◌<◌, All, IfOk, OnOk, length, map};
+ghost use Rattle.std.specs.Prelude.{◌≡◌, ◌^◌, ◌<◌, All, length};
 ghost use Rattle.smol_streams.specs.Displacement.{displacement};
 ghost use Rattle.smol_meaning.specs.Events.{lone_reaction, reaction_drawn};
-ghost use Rattle.smol_meaning.specs.Motion.{all_diffused, difstep_of, diffusion};
+ghost use Rattle.smol_meaning.specs.Motion.{difstep_of, diffusion};
 ghost use Rattle.smol_meaning.specs.Moves.{IsMove};
 ghost use Rattle.smol_meaning.specs.Placed.{IsPlaced};
+ghost use Rattle.smol_step.specs.Diffused.{AreDiffused};
 
 use crate::arrival::arrived;
 use crate::setup::Setup;
 use smol_geom::Step3;
 use smol_streams::{Drawn, Streams};
 use smol_types::{Config, Mol};
-use std::alloc::{AllocError, Global};
 
 // The difstep of a molecule's species.
 fn difstep_of(config: &Config, m: &Mol) -> u32
@@ -56,31 +56,30 @@ fn drawn(setup: &Setup, streams: &mut Streams, k: u32, m: &Mol) -> Drawn
     Drawn { by, word }
 }
 
-/// Moves all molecules, and tells of each that is left which reaction it makes alone then: the word of that lies behind those
-/// of its displacement. Those that are absorbed leave the list, and the others keep their order.
-pub(crate) fn diffuse(
-    alloc: Global,
+/// Moves molecules one after the other, and tells of each that is left which reaction it makes alone then: the word of that lies
+/// behind those of its displacement. Those that are left come to the front in their order, and beside each its reaction. How many
+/// they are.
+pub(crate) fn diffuse_in_turn(
     setup: &Setup,
-    streams: &mut Streams,
+    seed: u64,
     k: u32,
-    mols: &mut Vec<Mol>,
-) -> Result<Vec<Option<u16>>, AllocError>
-    requires placed { All (IsPlaced setup.now (2 ^ 57)) mols.old.items }
-    ensures moved { OnOk result (mols.new.items ≡ all_diffused setup.now streams.old k mols.old.items) }
-    ensures reactions { IfOk result (λ reactions. reactions.items ≡ map (lone_reaction setup.now streams.old k) mols.new.items) }
-    ensures seed { streams.new ≡ streams.old }
+    mols: &mut [Mol],
+    reactions: &mut [Option<u16>],
+) -> usize
+    requires placed { All (IsPlaced setup.now (2 ^ 57)) mols.old }
+    requires beside { length reactions.old ≡ length mols.old }
+    ensures { AreDiffused setup.now seed k mols.old mols.new reactions.new result }
 {
-    let mut reactions: Vec<Option<u16>> = Vec::with_capacity(alloc, mols.len())?;
+    let mut streams = Streams::of_seed(seed);
     let mut left = 0;
     for i in 0..mols.len() {
         let m = mols[i];
-        let Drawn { by, word } = drawn(setup, streams, k, &m);
+        let Drawn { by, word } = drawn(setup, &mut streams, k, &m);
         if let Some(after) = arrived(setup.panels(), &m, by) {
-            reactions.push(setup.alone().reaction(m.species, word))?;
+            reactions[left] = setup.alone().reaction(m.species, word);
             mols[left] = after;
             left += 1;
         }
     }
-    mols.truncate(left);
-    Ok(reactions)
+    left
 }

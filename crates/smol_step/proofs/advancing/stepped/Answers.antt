@@ -19,7 +19,7 @@ diffuse-requires g c =
     let config = c.args.setup.now in
     let sound = c.requires.sound in
     let few : c.args.state.step ≤ 4000000 = omega (arith, c.requires.further, sound.steps) in
-    record { placed = subst (All (IsPlaced config (2 ^ 57))) (sym c.into_vec-mols.ensures) (mols_near config c.args.state c.requires.fits few) }
+    (search, subst (All (IsPlaced config (2 ^ 57))) (sym c.into_vec-mols.ensures) (mols_near config c.args.state c.requires.fits few))
 
 pub reacted-requires-clause-turn : goal.reacted-requires-clause-turn
 reacted-requires-clause-turn g c _ _ =
@@ -31,7 +31,7 @@ reacted-requires-clause-count g c _ _ =
     let config = c.args.setup.now in
     let state = c.args.state in
     let mols : c.diffuse.new.mols.items ≡ all_diffused config c.args.seed (state.step + 1) state.mols =
-    c.in_ok-reactions.ensures.moved ∙ (λ i. all_diffused config (c.of_seed-streams.ensures i) (state.step + 1) (c.into_vec-mols.ensures i)) in
+    c.in_ok-reactions.ensures.moved ∙ ap (all_diffused config c.args.seed (state.step + 1)) c.into_vec-mols.ensures in
     omega (arith, ap length mols, diffused_few config c.requires.sound c.args.seed state c.requires.fits)
 
 pub reacted-requires-clause-serials : goal.reacted-requires-clause-serials
@@ -39,7 +39,7 @@ reacted-requires-clause-serials g c _ _ =
     let config = c.args.setup.now in
     let state = c.args.state in
     let mols : c.diffuse.new.mols.items ≡ all_diffused config c.args.seed (state.step + 1) state.mols =
-    c.in_ok-reactions.ensures.moved ∙ (λ i. all_diffused config (c.of_seed-streams.ensures i) (state.step + 1) (c.into_vec-mols.ensures i)) in
+    c.in_ok-reactions.ensures.moved ∙ ap (all_diffused config c.args.seed (state.step + 1)) c.into_vec-mols.ensures in
     subst (Ascend 0 last_serial) (sym mols)
     (Ascend-to 0 state.next last_serial _ c.requires.fits.next (diffused_ascend config c.args.seed (state.step + 1) 0 state.next state.mols c.requires.fits.serials))
 
@@ -48,7 +48,7 @@ reacted-requires-clause-placed g c _ _ =
     let config = c.args.setup.now in
     let state = c.args.state in
     let mols : c.diffuse.new.mols.items ≡ all_diffused config c.args.seed (state.step + 1) state.mols =
-    c.in_ok-reactions.ensures.moved ∙ (λ i. all_diffused config (c.of_seed-streams.ensures i) (state.step + 1) (c.into_vec-mols.ensures i)) in
+    c.in_ok-reactions.ensures.moved ∙ ap (all_diffused config c.args.seed (state.step + 1)) c.into_vec-mols.ensures in
     subst (All (IsPlaced config (2 ^ 57))) (sym mols) (diffused_near config c.requires.sound c.args.seed state c.requires.fits c.requires.further)
 
 pub returns : goal.returns
@@ -56,7 +56,7 @@ returns g c =
     let config = c.args.setup.now in
     let state = c.args.state in
     let mols : c.diffuse.new.mols.items ≡ all_diffused config c.args.seed (state.step + 1) state.mols =
-    c.in_ok-reactions.ensures.moved ∙ (λ i. all_diffused config (c.of_seed-streams.ensures i) (state.step + 1) (c.into_vec-mols.ensures i)) in
+    c.in_ok-reactions.ensures.moved ∙ ap (all_diffused config c.args.seed (state.step + 1)) c.into_vec-mols.ensures in
     subst
     (λ (mols : List Mol). IfOk c.reacted.result (λ (after : State). after ≡ reacted config c.args.seed (state.step + 1) mols state.next)) mols
     c.reacted.ensures

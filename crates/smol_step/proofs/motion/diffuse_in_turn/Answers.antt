@@ -1,6 +1,6 @@
 use Rattle.std.proofs.Common.{◌≡◌, ◌<◌, ◌^◌, ◌++◌, ◌∷◌, [], ℕ, List, All, Option, Some, length, get_or, map, take, ap, sym, ◌∙◌, subst, arith}
 use Rattle.std.specs.List.{cons_option, filter_map}
-use Rattle.std.proofs.lemmas.List.{append-nil}
+use Rattle.std.proofs.lemmas.List.{append-nil, get_or_default, length-set, take_more_set}
 use Rattle.std.proofs.lemmas.Option.{same_Some}
 use Rattle.smol_geom.specs.declared.place.Step3.{Step3}
 use Rattle.smol_types.specs.declared.draft.Draft.{Draft}
@@ -12,14 +12,18 @@ use Rattle.smol_meaning.specs.Motion.{arrived, diffused, diffusion, end_of_move}
 use Rattle.smol_meaning.specs.Placed.{IsPlaced}
 use Rattle.smol_meaning.specs.Seen.{way}
 use Rattle.smol_step.proofs.InPlace.{InPlace, chosen_more, filter_map-more, in_place_next, made_gone, made_stays}
-use Rattle.smol_step.proofs.motion.diffuse.Goals as goal
-use Rattle.smol_step.proofs.motion.diffuse.Goals.{in-Some+in_ok-push, in_default}
+use Rattle.smol_step.proofs.motion.diffuse_in_turn.Goals as goal
+use Rattle.smol_step.proofs.motion.diffuse_in_turn.Goals.{in-Some, in_default}
+
+-- what is read behind the end of a list of molecules
+abbrev none : Mol
+none = record { serial = 0; species = 0; place = record { 0 = [] } }
 
 -- the next molecule stands where it did
-placed_next : (draft : Draft) (front now old : List Mol) (left here : ℕ) (m : Mol) → All (IsPlaced draft (2 ^ 57)) old → InPlace front now old left here
-    → here < length old → m ≡ get_or now here m → IsPlaced draft (2 ^ 57) m
-placed_next draft front now old left here m placed so_far within is =
-    subst (IsPlaced draft (2 ^ 57)) (sym (is ∙ in_place_next front now old left here m so_far)) (placed here m within)
+placed_next : (draft : Draft) (front now old : List Mol) (left here : ℕ) → All (IsPlaced draft (2 ^ 57)) old → InPlace front now old left here
+    → here < length old → IsPlaced draft (2 ^ 57) (get_or now here none)
+placed_next draft front now old left here placed so_far within =
+    subst (IsPlaced draft (2 ^ 57)) (sym (in_place_next front now old left here none so_far)) (placed here none within)
 
 module _ (draft : Draft) (seed k : ℕ) (mol : Mol) where
   -- at the end of the way of its displacement a molecule is what the step leaves of it
@@ -33,40 +37,41 @@ module _ (draft : Draft) (seed k : ℕ) (mol : Mol) where
 
 pub drawn-word-requires : goal.drawn-word-requires
 drawn-word-requires c =
-    placed_next c.args.setup.now _ c.loop-i.mols.items c.args.mols.now.items c.loop-i.left c.loop-i.i c.index.result.now c.requires.placed c.loop-i.invariant.moved (omega arith) c.index.ensures
+    placed_next c.args.setup.now _ c.loop-i.mols c.args.mols.now c.loop-i.left c.loop-i.i c.requires.placed c.loop-i.invariant.moved (omega arith)
 
 pub arrived-requires-clause-species : goal.arrived-requires-clause-species
 arrived-requires-clause-species c =
-    let placed = placed_next c.args.setup.now _ c.loop-i.mols.items c.args.mols.now.items c.loop-i.left c.loop-i.i c.index.result.now c.requires.placed c.loop-i.invariant.moved (omega arith) c.index.ensures in
-    subst (λ (draft : Draft). c.index.result.now.species < length draft.species) (sym c.panels.ensures) placed.species
+    let placed = placed_next c.args.setup.now _ c.loop-i.mols c.args.mols.now c.loop-i.left c.loop-i.i c.requires.placed c.loop-i.invariant.moved (omega arith) in
+    subst (λ (draft : Draft). (get_or c.loop-i.mols c.loop-i.i none).species < length draft.species) (sym c.panels.ensures) placed.species
 
 pub reaction-requires : goal.reaction-requires
 reaction-requires c =
-    let placed = placed_next c.args.setup.now _ c.loop-i.mols.items c.args.mols.now.items c.loop-i.left c.loop-i.i c.index.result.now c.requires.placed c.loop-i.invariant.moved (omega arith) c.index.ensures in
-    subst (λ (draft : Draft). c.index.result.now.species < length draft.species) (sym c.alone.ensures) placed.species
+    let placed = placed_next c.args.setup.now _ c.loop-i.mols c.args.mols.now c.loop-i.left c.loop-i.i c.requires.placed c.loop-i.invariant.moved (omega arith) in
+    subst (λ (draft : Draft). (get_or c.loop-i.mols c.loop-i.i none).species < length draft.species) (sym c.alone.ensures) placed.species
 
 pub loop-i-preserved : goal.loop-i-preserved
 loop-i-preserved c =
     let draft = c.args.setup.now in
-    let seed = c.args.streams.now in
+    let seed = c.args.seed in
     let k = c.args.k in
-    let old = c.args.mols.now.items in
-    let now = c.loop-i.mols.items in
+    let old = c.args.mols.now in
+    let now = c.loop-i.mols in
     let here = c.loop-i.i in
     let left = c.loop-i.left in
-    let m = c.index.result.now in
+    let m = get_or now here none in
     let made = diffused draft seed k in
     let chosen = lone_reaction draft seed k in
     let front = filter_map made (take here old) in
     let so_far = c.loop-i.invariant.moved in
     let within : here < length old = omega arith in
-    let is = c.index.ensures ∙ in_place_next front now old left here m so_far in
+    let room : left < length c.loop-i.reactions = omega (arith, so_far.behind, c.loop-i.invariant.beside) in
+    let is : m ≡ get_or old here m = in_place_next front now old left here none so_far ∙ get_or_default old here none m within in
     let step = filter_map-more made old here m within is in
     let by = c.drawn-word.ensures.by ∙ ap (λ (seed : ℕ). (diffusion draft seed k m).by) c.loop-i.invariant.seed in
     let becomes = sym (c.arrived.ensures ∙ ap (λ (draft : Draft). arrived m (way draft m.species m.place c.drawn-word.result.by)) c.panels.ensures ∙ moves draft seed k m c.drawn-word.result.by by) in
     let same = c.drawn-word.ensures.seed ∙ c.loop-i.invariant.seed in
     elim c.match-arrived.branch [
-      | in-Some+in_ok-push w ↦
+      | in-Some w ↦
           let after = w.in-Some.after in
           let one = becomes ∙ w.in-Some.is in
           let drawn = w.reaction.ensures
@@ -76,16 +81,19 @@ loop-i-preserved c =
           ∙ chooses draft seed k m after (end_of_move draft (diffusion draft seed k m)) one in
           rw (w.mols-is, w.reactions-is, w.left-is) (record {
             moved = made_stays made now old left here m after within is one so_far;
-            reactions = w.in_ok-push.ensures.items ∙ ap (λ (last : Option ℕ). c.loop-i.reactions.items ++ last ∷ []) drawn
-                ∙ ap (λ (first : List (Option ℕ)). first ++ chosen after ∷ []) c.loop-i.invariant.reactions
+            chosen = take_more_set c.loop-i.reactions left w.reaction.result room
+                ∙ ap (λ (last : Option ℕ). take left c.loop-i.reactions ++ last ∷ []) drawn
+                ∙ ap (λ (first : List (Option ℕ)). first ++ chosen after ∷ []) c.loop-i.invariant.chosen
                 ∙ sym (ap (map chosen) (step ∙ ap (λ (made : Option Mol). front ++ cons_option made []) one) ∙ chosen_more chosen front after);
+            beside = length-set c.loop-i.reactions left w.reaction.result ∙ c.loop-i.invariant.beside;
             seed = same;
           })
       | in_default w ↦
           let one = becomes ∙ w.in_default.is in
           rw (w.mols-is, w.reactions-is, w.left-is) (record {
             moved = made_gone made now old left here m within is one so_far;
-            reactions = c.loop-i.invariant.reactions ∙ sym (ap (map chosen) (step ∙ ap (λ (made : Option Mol). front ++ cons_option made []) one ∙ append-nil front));
+            chosen = c.loop-i.invariant.chosen ∙ sym (ap (map chosen) (step ∙ ap (λ (made : Option Mol). front ++ cons_option made []) one ∙ append-nil front));
+            beside = c.loop-i.invariant.beside;
             seed = same;
           })
     ]
