@@ -3,7 +3,7 @@ use Rattle.std.specs.Prelude.{ℕ, Bool, true, List, [], ◌∷◌, if◌then◌
 use Rattle.std.specs.List.{list_any}
 use Rattle.std.specs.Str.{bytes_eq}
 use Rattle.smol_blocks.specs.declared.statement.Statement.{Statement}
-use Rattle.smol_blocks.specs.declared.statement.Statement.TheVariants.{PassedOver, NotInProfile, Unknown, Dim, Species, Difc, Difstep, TimeStart, TimeStop, TimeStep, MaxMol, RandomSeed, Boundaries, Mol, CompartmentMol, Reaction, BindingRadius, ReactionProbability, ProductPlacement, Block, OutputFiles, Cmd}
+use Rattle.smol_blocks.specs.declared.statement.Statement.TheVariants.{PassedOver, NotInProfile, Unknown, Dim, Species, Difc, Difstep, TimeStart, TimeStop, TimeStep, MaxMol, RandomSeed, PairOrder, Boundaries, Mol, CompartmentMol, Reaction, BindingRadius, ReactionProbability, ProductPlacement, Block, OutputFiles, Cmd}
 use Rattle.smol_blocks.specs.declared.block_statement.BlockStatement.TheVariants.{StartSurface, InSurface, EndSurface, StartCompartment, Surface, Point, EndCompartment}
 use Rattle.smol_blocks.specs.declared.surface_statement.SurfaceStatement.TheVariants.{Action, Panel, Jump}
 
@@ -19,6 +19,7 @@ built =
     ∷ (codes "time_step", TimeStep)
     ∷ (codes "max_mol", MaxMol)
     ∷ (codes "random_seed", RandomSeed)
+    ∷ (codes "pair_order", PairOrder)
     ∷ (codes "boundaries", Boundaries)
     ∷ (codes "mol", Mol)
     ∷ (codes "compartment_mol", CompartmentMol)

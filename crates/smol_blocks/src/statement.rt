@@ -92,6 +92,7 @@ pub enum Statement {
     TimeStep,
     MaxMol,
     RandomSeed,
+    PairOrder,
     Boundaries,
     Mol,
     CompartmentMol,
@@ -105,7 +106,7 @@ pub enum Statement {
 }
 
 /// The first words of the statements that are read.
-const BUILT: [(&str, Statement); 27] = [
+const BUILT: [(&str, Statement); 28] = [
     ("dim", Statement::Dim),
     ("species", Statement::Species),
     ("difc", Statement::Difc),
@@ -115,6 +116,7 @@ const BUILT: [(&str, Statement); 27] = [
     ("time_step", Statement::TimeStep),
     ("max_mol", Statement::MaxMol),
     ("random_seed", Statement::RandomSeed),
+    ("pair_order", Statement::PairOrder),
     ("boundaries", Statement::Boundaries),
     ("mol", Statement::Mol),
     ("compartment_mol", Statement::CompartmentMol),

@@ -71,6 +71,10 @@ module _ (box : Cuboid) where
   effect_linked draft seed c state (act.CountIn compartment out) = itself state
   effect_linked draft seed c state (act.List out) = itself state
   effect_linked draft seed c state (act.Positions who out) = itself state
+  effect_linked draft seed c state (act.CountSpace who axis low high bins out) = itself state
+  effect_linked draft seed c state (act.Moments who out) = itself state
+  effect_linked draft seed c state (act.MeanSquare who at out) = itself state
+  effect_linked draft seed c state (act.Radial first second radius bins out) = itself state
   effect_linked draft seed c state (act.Echo out text) = itself state
   effect_linked draft seed c state (act.Kill who) =
       let test : Mol → Bool = λ (mol : Mol). not (is_meant who mol) in

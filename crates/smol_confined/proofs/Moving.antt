@@ -9,16 +9,15 @@ use Rattle.smol_types.specs.Sound.{IsSound}
 use Rattle.smol_meaning.specs.declared.way.Travelled.{Travelled}
 use Rattle.smol_meaning.specs.declared.way.Travelled.TheVariants.{At, Absorbed}
 use Rattle.smol_meaning.specs.Box.{EndsInside, IsInside}
-use Rattle.smol_meaning.specs.Events.{birth_move}
-use Rattle.smol_meaning.specs.Motion.{Move, all_diffused, arrived, diffusion, end_of_move}
+use Rattle.smol_meaning.specs.Motion.{Move, arrived, diffusion, end_of_move}
 use Rattle.smol_meaning.specs.Placed.{IsMoveOf}
 use Rattle.smol_meaning.specs.Seen.{IsClosedBox}
-use Rattle.smol_meaning.specs.Step.{births_in_step, moves_of}
+use Rattle.smol_meaning.specs.Step.{moves_of}
 use Rattle.smol_meaning.proofs.Going.{stays_in_boxes}
 use Rattle.smol_meaning.proofs.Stepping.{moves_are}
 use Rattle.smol_confined.specs.Boxes.{StandsIn}
 use Rattle.smol_confined.specs.Laws.{IsBoxedStep, MotionIsConfined}
-use Rattle.smol_confined.proofs.Parts.{All-behind, All-from_map, All-front}
+use Rattle.smol_confined.proofs.Parts.{All-from_map, All-front}
 
 arrives_in : (box : Cuboid) (mol : Mol) (end : Travelled) → EndsInside box end → IfSome (arrived mol end) (StandsIn box)
 arrives_in box mol (At place) inside = inside
@@ -37,14 +36,6 @@ unfolding moves_of
 motions_of draft seed state are =
     All-from_map (IsMoveOf draft) (diffusion draft seed (state.step + 1)) state.mols
     (All-front (IsMoveOf draft) (map (diffusion draft seed (state.step + 1)) state.mols) _ are)
-
--- and the ways of its products
-pub births_among : (draft : Draft) (seed : ℕ) (state : State) → All (IsMoveOf draft) (moves_of draft seed state)
-    → All (λ birth. IsMoveOf draft (birth_move birth)) (births_in_step draft seed (state.step + 1) (all_diffused draft seed (state.step + 1) state.mols) state.next)
-unfolding moves_of
-births_among draft seed state are =
-    All-from_map (IsMoveOf draft) birth_move _
-    (All-behind (IsMoveOf draft) (map (diffusion draft seed (state.step + 1)) state.mols) _ are)
 
 -- no molecule leaves the box by its motion
 pub motion_is_confined : (draft : Draft) (seed : ℕ) (state : State) (box : Cuboid) → IsBoxedStep draft state box → MotionIsConfined draft seed state box

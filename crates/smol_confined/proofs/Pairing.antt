@@ -3,6 +3,7 @@ use Rattle.std.proofs.Common.{◌≡◌, ℕ, ◌+◌, ◌*◌, ◌^◌, Bool, t
 use Rattle.std.specs.Prelude.{◌↔◌}
 use Rattle.std.proofs.lemmas.Bool.{and_parts, cond_both, lt-ltb}
 use Rattle.std.proofs.lemmas.List.Elements.{All-append, All-cons, All-nil}
+use Rattle.std.proofs.lemmas.List.Sorted.{All-permutation}
 use Rattle.std.proofs.lemmas.Option.{get_or_from_slice_get, slice_get_within}
 use Rattle.smol_geom.specs.declared.cuboid.Cuboid.{Cuboid}
 use Rattle.smol_streams.proofs.Sizes.{word_small}
@@ -14,7 +15,7 @@ use Rattle.smol_types.specs.declared.state.State.{State}
 use Rattle.smol_types.specs.Sound.{IsSound}
 use Rattle.smol_meaning.specs.Box.{IsInside}
 use Rattle.smol_streams.specs.Chance.{pair_stream}
-use Rattle.smol_meaning.specs.Encounters.{Encounter, encounters_from, encounters_of, encounters_of_two, encounters_with, event_of_two, may_react}
+use Rattle.smol_meaning.specs.Encounters.{Encounter, encounters_from, encounters_of, encounters_of_two, encounters_with, event_of_two, listed, may_react}
 use Rattle.smol_meaning.specs.Events.{is_free}
 use Rattle.smol_meaning.specs.Meeting.{IsEncounter}
 use Rattle.smol_meaning.specs.Motion.{difstep_of}
@@ -22,6 +23,7 @@ use Rattle.smol_meaning.specs.Placed.{IsPlaced}
 use Rattle.smol_meaning.specs.Seen.{IsClosedBox, is_species}
 use Rattle.smol_meaning.specs.Sight.{are_hidden, is_barred}
 use Rattle.smol_meaning.proofs.Kept.{All-picked}
+use Rattle.smol_meaning.proofs.Listing.{listed_moves}
 use Rattle.smol_meaning.proofs.Meeting.{encounter, encounters_are}
 use Rattle.smol_meaning.proofs.Stepping.{diffused_near}
 use Rattle.smol_confined.specs.Boxes.{StandsIn}
@@ -72,7 +74,9 @@ module _ (draft : Draft) (seed k : ℕ) where
   -- all that meet in a step see each other
   all_see : (mols : List Mol) → All (SeeEachOther draft) (encounters_of draft seed k mols)
   unfolding encounters_of
-  all_see mols = from_see 0 mols
+  all_see mols =
+      let serial = encounters_from draft seed k 0 mols in
+      All-permutation (SeeEachOther draft) serial (listed draft.nearest serial) (listed_moves draft.nearest serial) (from_see 0 mols)
 
 neither : (first second : Bool) → first || second ≡ false → (first ≡ false) × (second ≡ false)
 neither true second e = absurd (cc e)

@@ -2,7 +2,6 @@
 use Rattle.std.proofs.Common.{◌≡◌, ℕ, zero, suc, ◌+◌, ◌<◌, ◌≤◌, Bool, true, false, List, [], ◌∷◌, ◌++◌, length, All, Option, Some, None, filter, slice_get, get_or, cond, sym, ap, ◌∙◌, ⊎_elim, refl, arith}
 use Rattle.std.specs.Prelude.{IfSome}
 use Rattle.std.specs.List.{cons_option, filter_map, items_where_true}
-use Rattle.std.specs.List.Sorted.{IsNonDecreasingBy}
 use Rattle.std.proofs.lemmas.Bool.{cases_lt}
 use Rattle.std.proofs.lemmas.Option.{get_or_from_slice_get, slice_get_within}
 use Rattle.std.proofs.lemmas.List.Elements.{All-cons, All-head, All-nil, All-tail}
@@ -109,11 +108,3 @@ pub Ascend-one : (least next i j : ℕ) (mols : List Mol) (a b : Mol) → Ascend
 Ascend-one least next i j mols a b ascend at_i at_j same =
     Ascend-same least next i j mols a ascend (slice_get_within mols i a at_i) (slice_get_within mols j b at_j)
     (ap (λ (mol : Mol). mol.serial) (get_or_from_slice_get mols i a a at_i) ∙ same ∙ ap (λ (mol : Mol). mol.serial) (sym (get_or_from_slice_get mols j b a at_j)))
-
--- serials don't fall
-pub Ascend-non_decreasing : (least next : ℕ) (mols : List Mol) → Ascend least next mols → IsNonDecreasingBy (λ (mol : Mol). mol.serial) mols
-Ascend-non_decreasing least next mols ascend = λ i j d up within.
-    ⊎_elim
-    (λ (less : i < j). let below = Ascend-below least next i j mols d ascend less within in omega (arith, below))
-    (λ (rest : j ≤ i). let same : i ≡ j = omega arith in let e = ap (λ (n : ℕ). (get_or mols n d).serial) same in omega (arith, e))
-    (cases_lt i j)

@@ -10,6 +10,7 @@ pub mod Ends
 pub mod Confined
 pub mod Kept
 pub mod Diffusing
+pub mod Listing
 pub mod Meeting
 pub mod Reacting
 pub mod Stepping

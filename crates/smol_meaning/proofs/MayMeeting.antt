@@ -12,11 +12,12 @@ use Rattle.smol_types.specs.declared.draft.Draft.{Draft}
 use Rattle.smol_types.specs.declared.state.Mol.{Mol}
 use Rattle.smol_types.specs.Reactions.{reacts_together}
 use Rattle.smol_streams.specs.Chance.{pair_word}
-use Rattle.smol_meaning.specs.Encounters.{Encounter, are_near, candidates_of, encounters_of, encounters_of_two, may_react, pair_of}
+use Rattle.smol_meaning.specs.Encounters.{Encounter, are_near, candidates_of, encounters_from, encounters_of, encounters_of_two, may_react, pair_of}
 use Rattle.smol_meaning.specs.Sight.{are_hidden}
 use Rattle.smol_meaning.specs.Who.{AreOfTwo, DrawsNone, MayMeet}
 use Rattle.smol_meaning.proofs.Candidates.{are_from, are_two, from_are, two_are}
 use Rattle.smol_meaning.proofs.Drawing.{draws_free, free_draws}
+use Rattle.smol_meaning.proofs.Listing.{has_listed, listed_has}
 use Rattle.smol_meaning.proofs.Meeting.{encounter}
 
 -- the reactants of a reaction of two
@@ -71,7 +72,7 @@ module _ (draft : Draft) (seed k : ℕ) (mols : List Mol) where
   meets : (e : Encounter) → Has (encounters_of draft seed k mols) e → MayMeet draft seed k mols e
   unfolding encounters_of
   meets e has =
-      let found = from_are draft seed k 0 mols e has in
+      let found = from_are draft seed k 0 mols e (listed_has draft.nearest (encounters_from draft seed k 0 mols) e has) in
       let m = found.2 in
       let by = two_are draft seed k (0 + found.0) m.one (0 + found.1) m.other 0 draft.reactions e m.has in
       let r = by.1 in
@@ -124,10 +125,11 @@ module _ (draft : Draft) (seed k : ℕ) (mols : List Mol) where
       (may_react draft seed k is.reaction) here ∙ may_react_by e is in
       let two = subst (Has (encounters_of_two draft seed k e.rank_a e.a e.rank_b e.b 0 draft.reactions)) here
       (are_two draft seed k e.rank_a e.a e.rank_b e.b 0 draft.reactions e.reaction is.reaction is.listed may) in
-      are_from draft seed k 0 mols e e.rank_a e.rank_b e.a e.b is.first is.second is.apart
+      has_listed draft.nearest (encounters_from draft seed k 0 mols) e
+      (are_from draft seed k 0 mols e e.rank_a e.rank_b e.a e.b is.first is.second is.apart
       (draws_free draft seed k e.a is.first_free) (draws_free draft seed k e.b is.second_free)
       (subst (λ n. Has (encounters_of_two draft seed k n e.a (0 + e.rank_b) e.b 0 draft.reactions) e) at_one
-      (subst (λ n. Has (encounters_of_two draft seed k e.rank_a e.a n e.b 0 draft.reactions) e) at_other two))
+      (subst (λ n. Has (encounters_of_two draft seed k e.rank_a e.a n e.b 0 draft.reactions) e) at_other two)))
 
   pub may_meet : (e : Encounter) → Contains (encounters_of draft seed k mols) e ↔ MayMeet draft seed k mols e
   may_meet e = (

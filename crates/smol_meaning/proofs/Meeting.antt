@@ -1,12 +1,14 @@
 -- Who meets whom in a step: two free molecules of the list, each with its place in it.
 use Rattle.std.proofs.Common.{◌≡◌, ℕ, suc, ◌+◌, ◌<◌, Bool, true, false, List, [], ◌∷◌, length, All, Some, slice_get, cond, refl, ap, ◌∙◌, subst, arith}
 use Rattle.std.proofs.lemmas.List.Elements.{All-append, All-cons, All-nil}
+use Rattle.std.proofs.lemmas.List.Sorted.{All-permutation}
 use Rattle.smol_types.specs.declared.draft.Draft.{Draft}
 use Rattle.smol_types.specs.declared.reaction.Reaction.{Reaction}
 use Rattle.smol_types.specs.declared.state.Mol.{Mol}
-use Rattle.smol_meaning.specs.Encounters.{Encounter, encounters_from, encounters_of, encounters_of_two, encounters_with, may_react}
+use Rattle.smol_meaning.specs.Encounters.{Encounter, encounters_from, encounters_of, encounters_of_two, encounters_with, listed, may_react}
 use Rattle.smol_meaning.specs.Events.{is_free}
 use Rattle.smol_meaning.specs.Meeting.{IsEncounter}
+use Rattle.smol_meaning.proofs.Listing.{listed_moves}
 
 -- the encounter of two molecules at their ranks
 abbrev pub encounter : ℕ → Mol → ℕ → Mol → ℕ → Encounter
@@ -72,7 +74,9 @@ module _ (P : Encounter → Type 0) (draft : Draft) (seed k : ℕ) where
 pub encounters_are : (draft : Draft) (seed k : ℕ) (mols : List Mol) → All (IsEncounter draft seed k mols) (encounters_of draft seed k mols)
 unfolding encounters_of
 encounters_are draft seed k mols =
-    from_all (IsEncounter draft seed k mols) draft seed k 0 mols (λ i j r a b is_a is_b less free_a free_b within.
+    let serial = encounters_from draft seed k 0 mols in
+    All-permutation (IsEncounter draft seed k mols) serial (listed draft.nearest serial) (listed_moves draft.nearest serial)
+    (from_all (IsEncounter draft seed k mols) draft seed k 0 mols (λ i j r a b is_a is_b less free_a free_b within.
     let at_a : 0 + i ≡ i = omega arith in
     let at_b : 0 + j ≡ j = omega arith in
     record {
@@ -82,4 +86,4 @@ encounters_are draft seed k mols =
       first_free = free_a;
       second_free = free_b;
       reaction = within;
-    })
+    }))

@@ -1,13 +1,14 @@
 -- Encounters are listed by the lower serial, then by the higher one, then by the reaction.
-use Rattle.std.proofs.Common.{◌≡◌, ℕ, ◌+◌, ◌≤◌, Bool, true, false, cond, inl, inr, List, [], ◌∷◌, ◌++◌, map, All, refl, sym, ◌∙◌, arith}
+use Rattle.std.proofs.Common.{◌≡◌, ℕ, ◌+◌, ◌≤◌, Bool, true, false, cond, inl, inr, List, [], ◌∷◌, ◌++◌, map, All, refl, sym, subst, ◌∙◌, arith}
 use Rattle.std.proofs.lemmas.List.Elements.{All-append, All-cons, All-head, All-map, All-nil, All-tail, All-weaker}
 use Rattle.smol_types.specs.declared.draft.Draft.{Draft}
 use Rattle.smol_types.specs.declared.reaction.Reaction.{Reaction}
 use Rattle.smol_types.specs.declared.state.Mol.{Mol}
 use Rattle.smol_types.specs.State.{Ascend}
-use Rattle.smol_meaning.specs.Encounters.{Encounter, candidates_of, encounters_from, encounters_of, encounters_of_two, encounters_with, may_react, pair_of}
+use Rattle.smol_meaning.specs.Encounters.{Encounter, candidates_of, encounters_from, encounters_of, encounters_of_two, encounters_with, listed, may_react, pair_of}
 use Rattle.smol_meaning.specs.Events.{is_free}
-use Rattle.smol_meaning.specs.Who.{AreInOrder, ComesBefore}
+use Rattle.smol_meaning.specs.Who.{AreInOrder, AreOrderedBy, ComesBefore, ComesFirst}
+use Rattle.smol_meaning.proofs.Listing.{nearest_order}
 use Rattle.smol_meaning.proofs.Meeting.{encounter}
 
 -- an encounter comes before another
@@ -15,8 +16,7 @@ abbrev Before : Encounter → Encounter → Type 0
 Before e f = ComesBefore (pair_of e) (pair_of f)
 
 abbrev InOrder : List Encounter → Type 0
-InOrder [] = Unit {0}
-InOrder (e ∷ es) = All (Before e) es × InOrder es
+InOrder es = AreOrderedBy Before es
 
 joined : (xs ys : List Encounter) → InOrder xs → InOrder ys → All (λ e. All (Before e) ys) xs → InOrder (xs ++ ys)
 joined [] ys front back each = back
@@ -142,7 +142,20 @@ module _ (draft : Draft) (seed k : ℕ) where
   in_order_of [] order = tt
   in_order_of (e ∷ es) order = (All-map (ComesBefore (pair_of e)) pair_of es order.0, in_order_of es order.1)
 
-  -- where serials ascend the candidates are in order
-  pub candidates_in_order : (low next : ℕ) (mols : List Mol) → Ascend low next mols → AreInOrder (candidates_of draft seed k mols)
+  -- where serials ascend the encounters are in order
+  pub encounters_in_order : (low next : ℕ) (mols : List Mol) → Ascend low next mols
+      → AreOrderedBy (ComesFirst draft.nearest) (encounters_of draft seed k mols)
   unfolding encounters_of
-  candidates_in_order low next mols up = in_order_of (encounters_from draft seed k 0 mols) (from_order 0 low next mols up)
+  encounters_in_order low next mols up = go draft.nearest
+    where
+      go : (nearest : Bool) → AreOrderedBy (ComesFirst nearest) (listed nearest (encounters_from draft seed k 0 mols))
+      go false = from_order 0 low next mols up
+      go true = nearest_order Before (encounters_from draft seed k 0 mols) (from_order 0 low next mols up)
+
+  -- and where distances don't count so are the candidates
+  pub candidates_in_order : (low next : ℕ) (mols : List Mol) → draft.nearest ≡ false → Ascend low next mols
+      → AreInOrder (candidates_of draft seed k mols)
+  unfolding encounters_of
+  candidates_in_order low next mols serial up =
+      subst (λ (nearest : Bool). AreInOrder (map pair_of (listed nearest (encounters_from draft seed k 0 mols)))) (sym serial)
+      (in_order_of (encounters_from draft seed k 0 mols) (from_order 0 low next mols up))

@@ -193,6 +193,10 @@ effect_kept draft seed c state (act.Count out) sound fits room does = record { l
 effect_kept draft seed c state (act.CountIn compartment out) sound fits room does = record { last = fits; states = All-nil (Fits draft); next = omega arith; step = refl }
 effect_kept draft seed c state (act.List out) sound fits room does = record { last = fits; states = All-nil (Fits draft); next = omega arith; step = refl }
 effect_kept draft seed c state (act.Positions who out) sound fits room does = record { last = fits; states = All-nil (Fits draft); next = omega arith; step = refl }
+effect_kept draft seed c state (act.CountSpace who axis low high bins out) sound fits room does = record { last = fits; states = All-nil (Fits draft); next = omega arith; step = refl }
+effect_kept draft seed c state (act.Moments who out) sound fits room does = record { last = fits; states = All-nil (Fits draft); next = omega arith; step = refl }
+effect_kept draft seed c state (act.MeanSquare who at out) sound fits room does = record { last = fits; states = All-nil (Fits draft); next = omega arith; step = refl }
+effect_kept draft seed c state (act.Radial first second radius bins out) sound fits room does = record { last = fits; states = All-nil (Fits draft); next = omega arith; step = refl }
 effect_kept draft seed c state (act.Echo out text) sound fits room does = record { last = fits; states = All-nil (Fits draft); next = omega arith; step = refl }
 effect_kept draft seed c state (act.Kill who) sound fits room does = killed_kept draft state (λ mol. not (is_meant who mol)) fits
 effect_kept draft seed c state (act.KillProb who p) sound fits room does = hit_kept draft state (λ rank mol. not (is_hit seed c state.step who p rank mol)) fits
@@ -231,6 +235,10 @@ effect_prints draft seed c state (act.Count out) does = piece_printed _ state ou
 effect_prints draft seed c state (act.CountIn compartment out) does = piece_printed _ state out _ does.1
 effect_prints draft seed c state (act.List out) does = piece_printed _ state out _ does
 effect_prints draft seed c state (act.Positions who out) does = piece_printed _ state out _ does.1
+effect_prints draft seed c state (act.CountSpace who axis low high bins out) does = piece_printed _ state out _ does.4
+effect_prints draft seed c state (act.Moments who out) does = piece_printed _ state out _ does.1
+effect_prints draft seed c state (act.MeanSquare who at out) does = piece_printed _ state out _ does.2
+effect_prints draft seed c state (act.Radial first second radius bins out) does = piece_printed _ state out _ does.5
 effect_prints draft seed c state (act.Echo out text) does = piece_printed _ state out _ does
 effect_prints draft seed c state (act.Kill who) does = silent _ _ refl
 effect_prints draft seed c state (act.KillProb who p) does = silent _ _ refl

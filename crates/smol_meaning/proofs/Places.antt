@@ -2,14 +2,11 @@
 use Rattle.std.proofs.Common.{◌≡◌, ℕ, zero, suc, ◌+◌, ◌%◌, ◌^◌, ◌≤◌, ℤ, pos, List, [], ◌∷◌, length, All, unsigned_abs, refl, sym, subst, arith}
 use Rattle.std.proofs.lemmas.List.Elements.{All-nil, All-cons}
 use Rattle.smol_geom.specs.declared.place.Place.{Place}
-use Rattle.smol_geom.specs.Axes.{on_axis, IsEven, IsWithin}
-use Rattle.smol_geom.proofs.EachAxis.{at_axis}
-use Rattle.smol_types.specs.declared.surface.Panel.{Panel}
+use Rattle.smol_geom.specs.Axes.{IsWithin}
 use Rattle.smol_types.specs.Compartments.{IsPoint}
 use Rattle.smol_types.specs.Coordinates.{AreCoordinates}
 use Rattle.smol_types.specs.Limits.{farthest}
-use Rattle.smol_types.specs.Panels.{IsPanel}
-use Rattle.smol_meaning.specs.Sighted.{IsInSight, IsPlaceWithin}
+use Rattle.smol_meaning.specs.Sighted.{IsPlaceWithin}
 
 -- a coordinate of a place: odd and no farther from the origin
 pub record IsCoordinate (most : ℕ) (x : ℤ) : Type 0 where
@@ -47,12 +44,3 @@ place_within_more most more place below is = record { odd = is.odd; size = withi
 pub point_within : (dims : ℕ) (point : Place) → IsPoint dims point → IsPlaceWithin (2 ^ 58) point
 point_within dims point is =
     place_within_more (farthest + 1) (2 ^ 58) point (omega arith) (coordinates_within (farthest + 1) dims point (omega arith) is.axes is.coordinates)
-
--- and so does a panel
-pub panel_in_sight : (dims surface_count : ℕ) (panels : List Panel) (panel : Panel) → IsPanel dims surface_count panels panel → IsInSight panel.rect
-panel_in_sight dims surface_count panels panel is = record {
-  shape = is.rect;
-  even = at_axis (λ axis. IsEven (on_axis panel.rect.low axis)) panel.rect.axis is.rect.axis is.low_even;
-  low = within_more farthest (2 ^ 58) panel.rect.low (omega arith) is.low_size;
-  high = within_more farthest (2 ^ 58) panel.rect.high (omega arith) is.high_size;
-}

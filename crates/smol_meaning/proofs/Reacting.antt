@@ -1,13 +1,14 @@
 -- What happens in a step: no more events than molecules, each of the configuration, and its products start where molecules stand.
-use Rattle.std.proofs.Common.{◌≡◌, ℕ, suc, ◌+◌, ◌*◌, ◌^◌, ◌<◌, ◌≤◌, Bool, true, false, nat_lt, nat_le, List, [], ◌∷◌, ◌++◌, length, All, Option, Some, None, slice_get, map, cond, refl, ap, ◌∙◌, subst, arith}
+use Rattle.std.proofs.Common.{◌≡◌, ℕ, zero, suc, ◌+◌, ◌*◌, ◌^◌, ◌<◌, ◌≤◌, Bool, true, false, not, ◌&&◌, inl, inr, nat_lt, nat_le, List, [], ◌∷◌, length, All, Option, Some, None, slice_get, map, cond, refl, sym, ap, ◌∙◌, subst, arith}
 use Rattle.std.specs.Prelude.{IfSome, is_none}
 use Rattle.std.specs.List.{cons_option, items_where_true}
 use Rattle.std.specs.Option.{option_map}
 use Rattle.std.proofs.lemmas.Bool.Decides.{nat_tests}
 use Rattle.std.proofs.lemmas.Grind.{common_steps}
-use Rattle.std.proofs.lemmas.List.{length-append, length-map, map-append}
+use Rattle.std.proofs.lemmas.List.{length-append, length-map}
 use Rattle.std.proofs.lemmas.List.Elements.{All-append, All-head, All-map, All-tail, All-weaker}
 use Rattle.std.proofs.lemmas.Option.{IfSome_then, get_or_from_slice_get, slice_get_within}
+use Rattle.smol_geom.specs.Moments.{Has}
 use Rattle.smol_plan.specs.declared.pair.Pair.{Pair}
 use Rattle.smol_plan.specs.Matching.{serial_from, taken_after}
 use Rattle.smol_plan.specs.Matching as matching
@@ -21,24 +22,19 @@ use Rattle.smol_types.specs.Sound.{IsSound}
 use Rattle.smol_meaning.specs.declared.event.Fired.{Fired}
 use Rattle.smol_meaning.specs.Births.{IsEvent}
 use Rattle.smol_streams.specs.Chance.{axis_drawn, first_order_word, pair_stream}
-use Rattle.smol_meaning.specs.Encounters.{Encounter, encounters_from, encounters_of, encounters_with, event_of_two, pair_of, reacting}
+use Rattle.smol_meaning.specs.Encounters.{Encounter, encounters_of, event_of_two, pair_of, reacting}
 use Rattle.smol_meaning.specs.Events.{event_of_one, is_free, lone_event, lone_events, lone_reaction, reaction_drawn}
 use Rattle.smol_meaning.specs.Meeting.{IsEncounter}
 use Rattle.smol_meaning.specs.Motion.{difstep_of}
 use Rattle.smol_meaning.specs.Placed.{IsPlaced, StandsWithin}
 use Rattle.smol_meaning.specs.Step.{events_of, reactions_of_two}
 use Rattle.smol_meaning.proofs.Kept.{All-filter_map, All-picked}
-use Rattle.smol_meaning.proofs.Meeting.{encounters_are, with_all}
+use Rattle.smol_meaning.proofs.Meeting.{encounters_are}
 
 -- how many pairs fire, where these molecules are taken at first
 abbrev fired : (ℕ → Bool) → List Pair → ℕ
 fired taken [] = 0
 fired taken (p ∷ pairs) = cond (matching.is_free taken p) 1 0 + fired (taken_after taken p) pairs
-
--- which molecules are taken after pairs
-abbrev taken_through : (ℕ → Bool) → List Pair → ℕ → Bool
-taken_through taken [] = taken
-taken_through taken (p ∷ pairs) = taken_through (taken_after taken p) pairs
 
 length-picked : {X : Type 0} (taken : ℕ → Bool) (pairs : List Pair) (xs : List X) → length (items_where_true (serial_from taken pairs) xs) ≤ fired taken pairs
 length-picked taken [] xs = omega arith
@@ -50,41 +46,18 @@ length-picked taken (p ∷ pairs) (x ∷ xs) = first (matching.is_free taken p) 
     first true few = omega (arith, few)
     first false few = omega (arith, few)
 
-fired-append : (taken : ℕ → Bool) (xs ys : List Pair) → fired taken (xs ++ ys) ≡ fired taken xs + fired (taken_through taken xs) ys
-fired-append taken [] ys = omega arith
-fired-append taken (p ∷ xs) ys = let more = fired-append (taken_after taken p) xs ys in omega (arith, more)
+-- a molecule that is taken stays so
+after_taken : (taken : ℕ → Bool) (p : Pair) (s : ℕ) → taken s ≡ true → taken_after taken p s ≡ true
+after_taken taken p s was = grind (arith, common_steps)
 
--- whether a molecule is taken after a pair of it
-after_taken : (taken : ℕ → Bool) (p : Pair) (s : ℕ) → p.a ≡ s → taken s ≡ true → (matching.is_free taken p ≡ false) × (taken_after taken p s ≡ true)
-after_taken taken p s is was = (grind (arith, common_steps, ap taken is), grind (arith, common_steps))
+-- a pair that fires takes its first molecule, which was not taken
+after_fired : (taken : ℕ → Bool) (p : Pair) (s : ℕ) → s ≡ p.a → matching.is_free taken p ≡ true → (taken s ≡ false) × (taken_after taken p s ≡ true)
+after_fired taken p s is free = (grind (arith, common_steps, nat_tests, ap taken is), grind (arith, common_steps, nat_tests))
 
-after_fired : (taken : ℕ → Bool) (p : Pair) (s : ℕ) → p.a ≡ s → matching.is_free taken p ≡ true → taken_after taken p s ≡ true
-after_fired taken p s is free = grind (arith, common_steps, nat_tests)
-
--- of pairs whose first molecule is taken none fires
-none_fires : (taken : ℕ → Bool) (s : ℕ) (pairs : List Pair) → All (λ (p : Pair). p.a ≡ s) pairs → taken s ≡ true → fired taken pairs ≡ 0
-none_fires taken s [] same was = refl
-none_fires taken s (p ∷ pairs) same was =
-    let Q : Pair → Type 0 = λ (p : Pair). p.a ≡ s in
-    let after = after_taken taken p s (All-head Q p pairs same) was in
-    let more = none_fires (taken_after taken p) s pairs (All-tail Q p pairs same) after.1 in
-    ap (λ (here : Bool). cond here 1 0 + fired (taken_after taken p) pairs) after.0 ∙ omega (arith, more)
-
--- of pairs with one first molecule at most one fires
-one_fires : (taken : ℕ → Bool) (s : ℕ) (pairs : List Pair) → All (λ (p : Pair). p.a ≡ s) pairs → fired taken pairs ≤ 1
-one_fires taken s [] same = omega arith
-one_fires taken s (p ∷ pairs) same =
-    let Q : Pair → Type 0 = λ (p : Pair). p.a ≡ s in
-    let rest = All-tail Q p pairs same in
-    first (matching.is_free taken p)
-    (λ free. none_fires (taken_after taken p) s pairs rest (after_fired taken p s (All-head Q p pairs same) free))
-    (one_fires (taken_after taken p) s pairs rest)
-    refl
-  where
-    first : (here : Bool) → (matching.is_free taken p ≡ true → fired (taken_after taken p) pairs ≡ 0) → fired (taken_after taken p) pairs ≤ 1
-        → matching.is_free taken p ≡ here → cond here 1 0 + fired (taken_after taken p) pairs ≤ 1
-    first true none one is = let zero_then = none is in omega (arith, zero_then)
-    first false none one is = omega (arith, one)
+got_has : {X : Type 0} → (xs : List X) (i : ℕ) (x : X) → slice_get xs i ≡ Some x → Has xs x
+got_has [] i x is = absurd cc
+got_has (y ∷ ys) zero x is = let same : x ≡ y = cc in inl (sym same)
+got_has (y ∷ ys) (suc i) x is = inr (got_has ys i x is)
 
 module _ (draft : Draft) (seed k : ℕ) where
   -- how many molecules make no reaction alone
@@ -92,27 +65,80 @@ module _ (draft : Draft) (seed k : ℕ) where
   free_count [] = 0
   free_count (mol ∷ mols) = cond (is_free draft seed k mol) 1 0 + free_count mols
 
-  -- each free molecule is the first of one pair at most that fires
-  fired_few : (taken : ℕ → Bool) (rank : ℕ) (mols : List Mol) → fired taken (map pair_of (encounters_from draft seed k rank mols)) ≤ free_count mols
-  fired_few taken rank [] = omega arith
-  fired_few taken rank (a ∷ mols) =
-      first (is_free draft seed k a) (λ taken. fired_few taken (rank + 1) mols)
-      (one_fires taken a.serial (map pair_of (encounters_with draft seed k rank a (rank + 1) mols))
-      (All-map (λ (p : Pair). p.a ≡ a.serial) pair_of (encounters_with draft seed k rank a (rank + 1) mols)
-      (with_all (λ (e : Encounter). e.a.serial ≡ a.serial) draft seed k rank a (rank + 1) mols (λ i r b is free within. refl))))
+  -- how many of these are not taken
+  abbrev left : (ℕ → Bool) → List Mol → ℕ
+  left taken [] = 0
+  left taken (mol ∷ mols) = cond (is_free draft seed k mol && not (taken mol.serial)) 1 0 + left taken mols
+
+  one_less : (here before after : Bool) → (before ≡ true → after ≡ true) → cond (here && not after) 1 0 ≤ cond (here && not before) 1 0
+  one_less false before after stays = omega arith
+  one_less true false true stays = omega arith
+  one_less true false false stays = omega arith
+  one_less true true true stays = omega arith
+  one_less true true false stays = let taken = stays refl in absurd cc
+
+  -- they become no more where all that are taken stay so
+  left_less : (before after : ℕ → Bool) → ((s : ℕ) → before s ≡ true → after s ≡ true) → (mols : List Mol) → left after mols ≤ left before mols
+  left_less before after stays [] = omega arith
+  left_less before after stays (mol ∷ mols) =
+      let first = one_less (is_free draft seed k mol) (before mol.serial) (after mol.serial) (stays mol.serial) in
+      let rest = left_less before after stays mols in
+      omega (arith, first, rest)
+
+  one_taken : (here before after : Bool) → here ≡ true → before ≡ false → after ≡ true → cond (here && not after) 1 0 + 1 ≤ cond (here && not before) 1 0
+  one_taken true false true is was now = omega arith
+  one_taken true false false is was now = absurd cc
+  one_taken true true after is was now = absurd cc
+  one_taken false before after is was now = absurd cc
+
+  -- and fewer where one of them is taken
+  left_fewer : (before after : ℕ → Bool) → ((s : ℕ) → before s ≡ true → after s ≡ true) → (mols : List Mol) (one : Mol) → Has mols one
+      → is_free draft seed k one ≡ true → before one.serial ≡ false → after one.serial ≡ true → left after mols + 1 ≤ left before mols
+  left_fewer before after stays [] one has free was now = absurd has
+  left_fewer before after stays (mol ∷ mols) one (inl same) free was now =
+      let first = one_taken (is_free draft seed k mol) (before mol.serial) (after mol.serial) (ap (is_free draft seed k) same ∙ free)
+      (ap (λ (m : Mol). before m.serial) same ∙ was) (ap (λ (m : Mol). after m.serial) same ∙ now) in
+      let rest = left_less before after stays mols in
+      omega (arith, first, rest)
+  left_fewer before after stays (mol ∷ mols) one (inr has) free was now =
+      let first = one_less (is_free draft seed k mol) (before mol.serial) (after mol.serial) (stays mol.serial) in
+      let rest = left_fewer before after stays mols one has free was now in
+      omega (arith, first, rest)
+
+  -- a free molecule that stands first in a pair
+  abbrev IsFirstOf : List Mol → Pair → Mol → Type 0
+  IsFirstOf mols p mol = Has mols mol × (is_free draft seed k mol ≡ true) × (mol.serial ≡ p.a)
+
+  -- each pair that fires takes the free molecule that stands first in it
+  fired_few : (taken : ℕ → Bool) (mols : List Mol) (pairs : List Pair) → All (λ (p : Pair). (mol : Mol) × IsFirstOf mols p mol) pairs
+      → fired taken pairs ≤ left taken mols
+  fired_few taken mols [] each = omega arith
+  fired_few taken mols (p ∷ pairs) each =
+      let First : Pair → Type 0 = λ (p : Pair). (mol : Mol) × IsFirstOf mols p mol in
+      first (All-head First p pairs each) (matching.is_free taken p) refl (fired_few (taken_after taken p) mols pairs (All-tail First p pairs each))
     where
-      first : (here : Bool) → ((taken : ℕ → Bool) → fired taken (map pair_of (encounters_from draft seed k (rank + 1) mols)) ≤ free_count mols)
-          → fired taken (map pair_of (encounters_with draft seed k rank a (rank + 1) mols)) ≤ 1
-          → fired taken (map pair_of (cond here (encounters_with draft seed k rank a (rank + 1) mols) [] ++ encounters_from draft seed k (rank + 1) mols))
-          ≤ cond here 1 0 + free_count mols
-      first true more one =
-          let behind = map pair_of (encounters_from draft seed k (rank + 1) mols) in
-          let here = map pair_of (encounters_with draft seed k rank a (rank + 1) mols) in
-          let both = ap (fired taken) (map-append pair_of (encounters_with draft seed k rank a (rank + 1) mols) (encounters_from draft seed k (rank + 1) mols))
-          ∙ fired-append taken here behind in
-          let after = more (taken_through taken here) in
-          omega (arith, both, one, after)
-      first false more one = let after = more taken in omega (arith, after)
+      first : (mol : Mol) × IsFirstOf mols p mol → (here : Bool) → matching.is_free taken p ≡ here
+          → fired (taken_after taken p) pairs ≤ left (taken_after taken p) mols → cond here 1 0 + fired (taken_after taken p) pairs ≤ left taken mols
+      first is true free rest =
+          let taken_now = after_fired taken p is.0.serial is.1.2 free in
+          let fewer = left_fewer taken (taken_after taken p) (after_taken taken p) mols is.0 is.1.0 is.1.1 taken_now.0 taken_now.1 in
+          omega (arith, fewer, rest)
+      first is false free rest = let fewer = left_less taken (taken_after taken p) (after_taken taken p) mols in omega (arith, fewer, rest)
+
+  left_first : (mols : List Mol) → left (λ _. false) mols ≤ free_count mols
+  left_first [] = omega arith
+  left_first (mol ∷ mols) = go (is_free draft seed k mol) (left_first mols)
+    where
+      go : (here : Bool) → left (λ _. false) mols ≤ free_count mols → cond (here && not false) 1 0 + left (λ _. false) mols ≤ cond here 1 0 + free_count mols
+      go true rest = omega (arith, rest)
+      go false rest = omega (arith, rest)
+
+  -- the first molecule of each candidate is a free one
+  firsts : (mols : List Mol) → All (λ (p : Pair). (mol : Mol) × IsFirstOf mols p mol) (map pair_of (encounters_of draft seed k mols))
+  firsts mols =
+      All-map (λ (p : Pair). (mol : Mol) × IsFirstOf mols p mol) pair_of (encounters_of draft seed k mols)
+      (All-weaker (IsEncounter draft seed k mols) (λ (e : Encounter). (mol : Mol) × IsFirstOf mols (pair_of e) mol)
+      (λ e is. (e.a, (got_has mols e.rank_a e.a is.first, is.first_free, refl))) (encounters_of draft seed k mols) (encounters_are draft seed k mols))
 
   lone_few : (mols : List Mol) → length (lone_events draft seed k mols) + free_count mols ≡ length mols
   lone_few [] = refl
@@ -132,9 +158,10 @@ module _ (draft : Draft) (seed k : ℕ) where
       let both = length-append (lone_events draft seed k mols) (map (event_of_two draft seed k) (reacting encounters)) in
       let two = length-map (reacting encounters) (event_of_two draft seed k) in
       let picked = length-picked (λ _. false) pairs encounters in
-      let few = fired_few (λ _. false) 0 mols in
+      let few = fired_few (λ _. false) mols pairs (firsts mols) in
+      let most = left_first mols in
       let lone = lone_few mols in
-      omega (arith, both, two, picked, few, lone)
+      omega (arith, both, two, picked, few, most, lone)
 
   -- the axis that a word draws is in use
   word_below : (dims word : ℕ) → 0 < dims → word < 2 ^ 32 → axis_drawn dims word < dims

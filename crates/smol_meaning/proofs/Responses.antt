@@ -54,13 +54,6 @@ both_ends plane n d e = (omega (arith, sums, e), omega (arith, sums, e))
 one_number : (plane n d : ℤ) → (plane *ℤ d) ≤ℤ (n *ℤ pos 1) → (n *ℤ pos 1) ≤ℤ (plane *ℤ d) → n *ℤ pos 1 ≡ plane *ℤ d
 one_number plane n d low high = omega (arith, sums, low, high)
 
--- the test says whether the point is on the sheet
-pub on_from : (sheet : Sheet) (point : ℕ → Fraction) → IsOn sheet point → is_on sheet point ≡ true
-on_from (Rectangle rect) point h = holds_from rect point h
-on_from (Plane axis plane) point h =
-    let ends = both_ends plane (point axis).num (pos (point axis).den) h in
-    between_from plane plane (point axis) ends.0 ends.1
-
 pub on_is : (sheet : Sheet) (point : ℕ → Fraction) → is_on sheet point ≡ true → IsOn sheet point
 on_is (Rectangle rect) point e = holds_is rect point e
 on_is (Plane axis plane) point e =

@@ -113,9 +113,6 @@ all_walls dims axis (suc n) (lower ∷ upper ∷ walls) are count within =
     (All-cons (IsWallOf dims) upper walls (record { across = omega (arith, are.0.upper_axis, within); size = are.0.upper_size; even = are.0.upper_even })
     (all_walls dims (axis + 1) n walls are.1 (omega (arith, count)) (omega (arith, within))))
 
-none_is_even : unsigned_abs (pos 0) % 2 ≡ 0
-none_is_even = refl
-
 wall_jump_on : (dims axis : ℕ) (plane other : ℤ) → axis < 3 → axis < dims → unsigned_abs plane % 2 ≡ 0 → unsigned_abs other % 2 ≡ 0 → unsigned_abs other ≤ farthest
     → IsJump dims (Plane axis plane) (slice_set (pos 0 ∷ pos 0 ∷ pos 0 ∷ []) axis (other -ℤ plane))
 wall_jump_on dims zero plane other l used even even' small =

@@ -1,5 +1,5 @@
 -- What commands do.
-use Rattle.std.specs.Prelude.{ℕ, zero, suc, ◌+◌, ◌&&◌, ◌==◌, Bool, not, nat_eq, nat_lt, List, [], ◌∷◌, ◌++◌, length, if◌then◌else◌, count_by, filter, flat_map}
+use Rattle.std.specs.Prelude.{ℕ, zero, suc, ◌+◌, ◌*◌, ◌&&◌, ◌==◌, Bool, not, nat_eq, nat_lt, List, [], ◌∷◌, ◌++◌, length, if◌then◌else◌, count_by, filter, flat_map}
 use Rattle.std.specs.List.{list_all, list_any}
 use Rattle.smol_num.specs.declared.quantities.Threshold.{Threshold}
 use Rattle.smol_geom.specs.declared.place.Place.{Place}
@@ -13,7 +13,10 @@ use Rattle.smol_types.specs.declared.state.Mol.{Mol}
 use Rattle.smol_types.specs.declared.state.State.{State}
 use Rattle.smol_streams.specs.Chance.{command_word}
 use Rattle.smol_meaning.specs.Inside.{is_inside}
-use Rattle.smol_meaning.specs.Lines.{count_line, counts_from, header_line, mol_line, positions_line}
+use Rattle.smol_stats.specs.Bins.{bins_of}
+use Rattle.smol_stats.specs.Radial.{radial_of}
+use Rattle.smol_meaning.specs.Lines.{count_line, counts_from, header_line, mol_line, number_line, positions_line}
+use Rattle.smol_meaning.specs.Statistics.{marks_of, mean_square_of, moments_of}
 use Rattle.smol_meaning.specs.Stretch.{Stretch, becomes, idle, is_over, prints, stops}
 use Rattle.smol_meaning.specs.Timing.{time_of}
 
@@ -73,6 +76,14 @@ effect_of draft seed c state (act.CountIn compartment out) =
 effect_of draft seed c state (act.List out) = prints state out (flat_map (mol_line draft) state.mols)
 effect_of draft seed c state (act.Positions who out) =
     prints state out (positions_line draft (time_of draft state.step) (filter (is_meant who) state.mols))
+effect_of draft seed c state (act.CountSpace who axis low high bins out) =
+    prints state out (count_line (time_of draft state.step) (bins_of (marks_of (length draft.species) who) axis low high bins state.mols))
+effect_of draft seed c state (act.Moments who out) =
+    prints state out (number_line (time_of draft state.step) (moments_of draft.dims (marks_of (length draft.species) who) state.mols))
+effect_of draft seed c state (act.MeanSquare who at out) =
+    prints state out (number_line (time_of draft state.step) (mean_square_of draft.dims (marks_of (length draft.species) who) at state.mols))
+effect_of draft seed c state (act.Radial first second radius bins out) =
+    prints state out (count_line (time_of draft state.step) (radial_of first second (2 * radius) bins state.mols))
 effect_of draft seed c state (act.Echo out text) = prints state out text
 effect_of draft seed c state (act.Kill who) = becomes (with_mols state (filter (λ mol. not (is_meant who mol)) state.mols))
 effect_of draft seed c state (act.KillProb who p) =

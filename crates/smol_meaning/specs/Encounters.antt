@@ -61,9 +61,28 @@ encounters_from draft seed k rank (a ∷ mols) =
     (if is_free draft seed k a then encounters_with draft seed k rank a (rank + 1) mols else [])
     ++ encounters_from draft seed k (rank + 1) mols
 
--- all encounters of a list of molecules in step k
+-- the square of the distance between the two, in square ticks
+abbrev pub square_between : Encounter → ℕ
+square_between e = square_of_distance e.a.place e.b.place
+
+-- an encounter put among others that are listed by distance: before the first that is no nearer
+abbrev pub put_nearest : Encounter → List Encounter → List Encounter
+put_nearest e [] = e ∷ []
+put_nearest e (f ∷ fs) = if nat_le (square_between e) (square_between f) then e ∷ f ∷ fs else f ∷ put_nearest e fs
+
+-- encounters by distance, the nearest first. Those of one distance stay in their order
+abbrev pub nearest_first : List Encounter → List Encounter
+nearest_first [] = []
+nearest_first (e ∷ es) = put_nearest e (nearest_first es)
+
+-- encounters in the order in which they come to a reaction: as they are, or the nearest first
+abbrev pub listed : Bool → List Encounter → List Encounter
+listed nearest es = if nearest then nearest_first es else es
+
+-- all encounters of a list of molecules in step k: by the lower serial, the higher one and the reaction, and where the configuration
+-- asks for it by distance before these
 unfoldable pub encounters_of : Draft → ℕ → ℕ → List Mol → List Encounter
-encounters_of draft seed k mols = encounters_from draft seed k 0 mols
+encounters_of draft seed k mols = listed draft.nearest (encounters_from draft seed k 0 mols)
 
 -- an encounter as a pair of serials
 abbrev pub pair_of : Encounter → Pair

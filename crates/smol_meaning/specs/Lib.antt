@@ -14,6 +14,7 @@ pub mod Events
 pub mod Encounters
 pub mod Step
 pub mod Lines
+pub mod Statistics
 pub mod Timing
 pub mod Stretch
 pub mod Commands

@@ -1,6 +1,6 @@
 -- The lines that commands print.
 use Rattle.std.specs.Prelude.{ℕ, ◌+◌, ◌==◌, ℤ, pos, ◌-ℤ◌, List, [], ◌∷◌, ◌++◌, codes, count_by, flat_map, take}
-use Rattle.std.specs.Fmt.{decimal}
+use Rattle.std.specs.Fmt.{decimal, signed_decimal}
 use Rattle.std.specs.Int.{int_div_euclid}
 use Rattle.smol_num.specs.Print.{decimal_text}
 use Rattle.smol_geom.specs.declared.place.Place.{Place}
@@ -31,6 +31,15 @@ header_line draft = codes "time" ++ flat_map (λ (species : Species). codes " " 
 -- the line of `molcount`: the time, which is in nanos, and the counts
 unfoldable pub count_line : ℤ → List ℕ → List ℕ
 count_line time counts = decimal_text 9 time ++ spaced counts ++ codes "\n"
+
+-- numbers with a sign, each behind a space
+abbrev pub spaced_signed : List ℤ → List ℕ
+spaced_signed [] = []
+spaced_signed (z ∷ numbers) = codes " " ++ signed_decimal z ++ spaced_signed numbers
+
+-- a line of numbers: the time, which is in nanos, and the numbers
+unfoldable pub number_line : ℤ → List ℤ → List ℕ
+number_line time numbers = decimal_text 9 time ++ spaced_signed numbers ++ codes "\n"
 
 -- the coordinate in micros at which a molecule counts that stands half a micro above it, at x ticks
 abbrev pub micros_at : ℤ → ℤ

@@ -1,5 +1,5 @@
 -- Who reacts in a step, said of one molecule and of one pair at a time.
-use Rattle.std.specs.Prelude.{◌≡◌, ℕ, ◌+◌, ◌*◌, ◌<◌, ◌≤◌, ◌⊎◌, false, List, [], ◌∷◌, length, All, Some, slice_get, sum_by, take, unsigned_abs}
+use Rattle.std.specs.Prelude.{◌≡◌, ℕ, ◌+◌, ◌*◌, ◌<◌, ◌≤◌, ◌⊎◌, Bool, true, false, List, [], ◌∷◌, length, All, Some, slice_get, sum_by, take, unsigned_abs}
 use Rattle.smol_num.specs.declared.quantities.Micro.{Micro}
 use Rattle.smol_geom.specs.Place.{square_of_distance}
 use Rattle.smol_plan.specs.declared.pair.Pair.{Pair}
@@ -8,7 +8,7 @@ use Rattle.smol_types.specs.declared.reaction.Reaction.{Reaction}
 use Rattle.smol_types.specs.declared.state.Mol.{Mol}
 use Rattle.smol_types.specs.Reactions.{share_of}
 use Rattle.smol_streams.specs.Chance.{first_order_word, pair_word}
-use Rattle.smol_meaning.specs.Encounters.{Encounter}
+use Rattle.smol_meaning.specs.Encounters.{Encounter, pair_of, square_between}
 use Rattle.smol_meaning.specs.Sight.{are_hidden}
 
 -- how many of the random words are those of the first reactions, so many of them, for single molecules of a species
@@ -55,3 +55,15 @@ ComesBefore p q = (p.a < q.a) ⊎ ((p.a ≡ q.a) × ((p.b < q.b) ⊎ ((p.b ≡ q
 abbrev pub AreInOrder : List Pair → Type 0
 AreInOrder [] = Unit {0}
 AreInOrder (pair ∷ pairs) = All (ComesBefore pair) pairs × AreInOrder pairs
+
+-- the first encounter comes before the second: by the serials and the reaction, and where the nearest come first by the distance
+-- before these
+abbrev pub ComesFirst : Bool → Encounter → Encounter → Type 0
+ComesFirst false e f = ComesBefore (pair_of e) (pair_of f)
+ComesFirst true e f =
+    (square_between e < square_between f) ⊎ ((square_between e ≡ square_between f) × ComesBefore (pair_of e) (pair_of f))
+
+-- each comes before all that follow it, where this says what comes before what
+abbrev pub AreOrderedBy : {X : Type 0} → (X → X → Type 0) → List X → Type 0
+AreOrderedBy Before [] = Unit {0}
+AreOrderedBy Before (x ∷ xs) = All (Before x) xs × AreOrderedBy Before xs

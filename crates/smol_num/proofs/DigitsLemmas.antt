@@ -35,10 +35,6 @@ pub digits_value-take-lt : (ds : List ℕ) (i : ℕ) → i < length ds → lengt
 digits_value-take-lt ds i within few all =
     digits_value_short digits_model (take i ds) 37 all (omega (arith, length-take-le i ds (omega arith)))
 
--- the value of digits is less than the power of ten of their number
-pub digits_value-lt : (ds : List ℕ) → list_all is_digit ds ≡ true → digits_value ds < 10 ^ length ds
-digits_value-lt ds all = digits_value_short digits_model ds (length ds) all (omega arith)
-
 -- three digits at most
 pub digits_value-three : (ds : List ℕ) → list_all is_digit ds ≡ true → length ds ≤ 3 → digits_value ds < 1000
 digits_value-three ds all few = digits_value_short digits_model ds 3 all few

@@ -1,5 +1,6 @@
 -- Commands that a configuration may have.
-use Rattle.std.specs.Prelude.{◌≡◌, ℕ, ◌+◌, ◌<◌, ◌≤◌, pos, ◌<ℤ◌, List, [], ◌∷◌, length, All, unsigned_abs}
+use Rattle.std.specs.Prelude.{◌≡◌, ℕ, ◌+◌, ◌<◌, ◌≤◌, pos, ◌<ℤ◌, ℤ, List, [], ◌∷◌, length, All, unsigned_abs}
+use Rattle.smol_geom.specs.Axes.{IsWithin}
 use Rattle.smol_types.specs.declared.wall.Wall.{Wall}
 use Rattle.smol_types.specs.declared.command.When.{When}
 use Rattle.smol_types.specs.declared.command.When.TheVariants as «when»
@@ -8,7 +9,7 @@ use Rattle.smol_types.specs.declared.command.Test.TheVariants as test
 use Rattle.smol_types.specs.declared.command.Act.{Act}
 use Rattle.smol_types.specs.declared.command.Act.TheVariants as act
 use Rattle.smol_types.specs.declared.command.Command.{Command}
-use Rattle.smol_types.specs.Limits.{most_molecules, most_steps, most_tests, latest, certain}
+use Rattle.smol_types.specs.Limits.{most_bins, most_molecules, most_steps, most_tests, farthest, farthest_micros, longest, latest, certain}
 use Rattle.smol_types.specs.Walls.{AreBetween}
 
 -- when commands may be due
@@ -34,6 +35,14 @@ IsTest species_count (test.IfMore who n) = AreSpecies species_count who × (n �
 abbrev pub IsOutlet : ℕ → ℕ → Type 0
 IsOutlet output_count out = out < 2 + output_count
 
+-- a range between two coordinates, in ticks
+abbrev pub IsRange : ℤ → ℤ → Type 0
+IsRange low high = (unsigned_abs low ≤ farthest) × (unsigned_abs high ≤ farthest) × (low <ℤ high)
+
+-- so many parts of a range
+abbrev pub AreBins : ℕ → Type 0
+AreBins bins = (0 < bins) × (bins ≤ most_bins)
+
 abbrev pub IsAct : ℕ → ℕ → ℕ → List Wall → Act → Type 0
 IsAct species_count compartment_count output_count walls (act.CountHeader out) = IsOutlet output_count out
 IsAct species_count compartment_count output_count walls (act.Count out) = IsOutlet output_count out
@@ -42,6 +51,13 @@ IsAct species_count compartment_count output_count walls (act.CountIn compartmen
 IsAct species_count compartment_count output_count walls (act.List out) = IsOutlet output_count out
 IsAct species_count compartment_count output_count walls (act.Positions who out) =
     AreSpecies species_count who × IsOutlet output_count out
+IsAct species_count compartment_count output_count walls (act.CountSpace who axis low high bins out) =
+    AreSpecies species_count who × (axis < 3) × IsRange low high × AreBins bins × IsOutlet output_count out
+IsAct species_count compartment_count output_count walls (act.Moments who out) = AreSpecies species_count who × IsOutlet output_count out
+IsAct species_count compartment_count output_count walls (act.MeanSquare who at out) =
+    AreSpecies species_count who × IsWithin farthest_micros at × IsOutlet output_count out
+IsAct species_count compartment_count output_count walls (act.Radial first second radius bins out) =
+    (first < species_count) × (second < species_count) × (0 < radius) × (radius ≤ longest) × AreBins bins × IsOutlet output_count out
 IsAct species_count compartment_count output_count walls (act.Echo out text) = IsOutlet output_count out
 IsAct species_count compartment_count output_count walls (act.Kill who) = AreSpecies species_count who
 IsAct species_count compartment_count output_count walls (act.KillProb who p) = AreSpecies species_count who × (p.0 ≤ certain)

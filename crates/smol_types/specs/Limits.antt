@@ -49,9 +49,21 @@ most_steps = 4000000
 abbrev pub farthest : ℕ
 farthest = 2000000000000
 
+-- the same in micros
+abbrev pub farthest_micros : ℕ
+farthest_micros = 1000000000000
+
+-- how many parts of a range a command may count molecules in
+abbrev pub most_bins : ℕ
+most_bins = 1000
+
 -- how long a difstep, an offset, a radius or a distance of products may be, in micros
 abbrev pub longest : ℕ
 longest = 1000000000
+
+-- how large the rate of a reaction may be, in billionths per unit of time
+abbrev pub fastest : ℕ
+fastest = 1000000000000000
 
 -- how large a time may be, whatever its sign, in nanos
 abbrev pub latest : ℕ

@@ -6,7 +6,7 @@ use Rattle.smol_types.specs.declared.reaction.Placement.{Placement}
 use Rattle.smol_types.specs.declared.reaction.Placement.TheVariants.{Offsets, Unbind}
 use Rattle.smol_types.specs.declared.reaction.Product.{Product}
 use Rattle.smol_types.specs.declared.reaction.Reaction.{Reaction}
-use Rattle.smol_types.specs.Limits.{longest, certain, most_products}
+use Rattle.smol_types.specs.Limits.{longest, fastest, certain, most_products}
 
 -- whether the reaction has this species as its one reactant
 abbrev pub reacts_alone : ℕ → List ℕ → Bool
@@ -50,4 +50,7 @@ pub record IsReaction (dims species_count : ℕ) (reaction : Reaction) : Type 0 
   pub radius_above : IfSome reaction.radius (λ (radius : Micro). pos 0 ≤ℤ radius.0)
   pub radius_below : IfSome reaction.radius (λ (radius : Micro). unsigned_abs radius.0 ≤ longest)
   pub threshold : reaction.threshold.0 ≤ certain
+  -- a rate is one of a reaction of one
+  pub rate_order : IfSome reaction.rate (λ _. reaction.order ≡ 1)
+  pub rate_below : IfSome reaction.rate (λ (rate : ℕ). rate ≤ fastest)
   pub placement : IsPlacement (length reaction.products) reaction.placement

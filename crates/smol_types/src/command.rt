@@ -68,6 +68,35 @@ pub enum Act {
         who: Items<u16>,
         out: u32,
     },
+    /// Prints the time and how many of the molecules meant are in each of the `bins` equal parts of a range of an axis, from `low` to
+    /// `high` in ticks.
+    CountSpace {
+        who: Items<u16>,
+        axis: u8,
+        low: i64,
+        high: i64,
+        bins: u32,
+        out: u32,
+    },
+    /// Prints the time, the number of the molecules meant, and the sums of their coordinates and of the squares of these.
+    Moments {
+        who: Items<u16>,
+        out: u32,
+    },
+    /// Prints the time, the number of the molecules meant, and the mean square of how far they are from a place in micros.
+    MeanSquare {
+        who: Items<u16>,
+        at: [i64; 3],
+        out: u32,
+    },
+    /// Prints the time and how many pairs of two species are in each of the `bins` shells of one thickness within a radius in micros.
+    Radial {
+        first: u16,
+        second: u16,
+        radius: u64,
+        bins: u32,
+        out: u32,
+    },
     /// Prints a text.
     Echo {
         out: u32,

@@ -149,4 +149,12 @@ impl Config {
     {
         self.draft.seed
     }
+
+    /// Whether pairs of molecules react by their distances before their serials: the nearest first. Takes no memory.
+    pub fn nearest(&self) -> bool
+        ensures value { result ≡ self.now.nearest }
+        ensures sound { IsSound self.now }
+    {
+        self.draft.nearest
+    }
 }

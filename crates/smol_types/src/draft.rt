@@ -33,4 +33,6 @@ pub struct Draft {
     pub max_mol: u32,
     /// The seed of the drawn words, where the configuration gives one.
     pub seed: Option<u64>,
+    /// Whether pairs of molecules react by their distances before their serials.
+    pub nearest: bool,
 }

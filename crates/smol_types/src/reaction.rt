@@ -32,5 +32,7 @@ pub struct Reaction {
     pub radius: Option<Micro>,
     /// Which random words are a yes.
     pub threshold: Threshold,
+    /// The rate that gives a reaction of one its threshold, in billionths per unit of time. Without it a probability does.
+    pub rate: Option<u64>,
     pub placement: Placement,
 }
