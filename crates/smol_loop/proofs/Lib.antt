@@ -5,3 +5,4 @@ mod ToldFaults
 mod Phases
 mod StepsMade
 mod Whole
+mod Endings

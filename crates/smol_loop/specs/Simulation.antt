@@ -1,6 +1,7 @@
 -- How a simulation ends, and what outlets are given in it, by the run of its configuration.
 use Rattle.std.specs.Prelude.{◌≡◌, List, [], Result, Ok, Err, IsOkAnd}
 use Rattle.smol_edge.specs.Outlets.{Piece, Written, Appends, AppendsFrontOf}
+use Rattle.smol_types.specs.declared.state.State.{State}
 use Rattle.smol_meaning.specs.Placement.{NoPlace}
 use Rattle.smol_meaning.specs.Stretch.{Ending, GoesOn, Stopped, Over, Stretch}
 use Rattle.smol_loop.specs.declared.run_fault.RunFault.{RunFault}
@@ -20,6 +21,10 @@ EndsAs run (Err (fault.NoPlace line serial)) = run ≡ Err (record { line = line
 EndsAs run (Err (fault.TooManyMolecules step)) = IsOkAnd run (λ (stretch : Stretch). stretch.ending ≡ Over step)
 EndsAs run (Err fault.OutputFault) = Unit {0}
 EndsAs run (Err fault.OutOfMemory) = Unit {0}
+
+-- a run that begins ends in this state
+abbrev pub EndsIn : Result Stretch NoPlace → State → Type 0
+EndsIn run last = IsOkAnd run (λ (stretch : Stretch). stretch.last ≡ last)
 
 -- what a run prints. One without an opening state prints nothing
 abbrev pub pieces_of : Result Stretch NoPlace → List Piece

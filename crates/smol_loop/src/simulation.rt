@@ -1,71 +1,16 @@
-ghost use Rattle.std.specs.Prelude.{◌≡◌, ◌≢◌, ◌≤◌, IsErrOf, OnOk, length};
+ghost use Rattle.std.specs.Prelude.{◌≡◌, ◌≢◌, ◌≤◌, IsErrOf, length};
 ghost use Rattle.smol_edge.specs.Faults.{Rose, Tells};
-ghost use Rattle.smol_meaning.specs.Run.{course, run_of};
-ghost use Rattle.smol_loop.specs.Parts.{IsReady, Leaves, StaysReady, up_to_end};
+ghost use Rattle.smol_meaning.specs.Run.{run_of};
 ghost use Rattle.smol_loop.specs.Simulation.{EndsAs, Prints};
 
-use crate::commands::{outlet_count, perform_due};
-use crate::faults::fault_of_placing;
-use crate::held::Held;
-use crate::run::{Run, Team};
+use crate::course::make_run;
 use crate::run_fault::RunFault;
-use crate::stepping::make_steps;
-use smol_commands::Flow;
-use smol_compart::place_all;
 use smol_edge::{Gate, Outlets};
-use smol_print::Pages;
-use smol_step::{Panels, Setup};
-use smol_streams::Streams;
-use smol_types::{Config, Phase};
+use smol_types::Config;
 use std::alloc::Global;
 use std::thread::Threads;
 
-// Performs the commands before the first step, and makes all steps.
-fn begin_and_step<R: Threads + Sync, K: Outlets, G: Gate + Sync>(
-    team: &Team<R, G>,
-    run: &Run,
-    held: &mut Held,
-    outlets: &mut K,
-) -> Result<Flow, RunFault>
-    requires ready { IsReady run.now.setup.now run.now.seed (K.opened outlets.old) held.old }
-    requires first { held.old.state.step ≡ 0 }
-    requires room { held.old.state.next ≤ 1000001 }
-
-    ensures left { Leaves (up_to_end run.now.setup.now run.now.seed held.old.state) result held.new.state
-        (K.told outlets.old) (K.told outlets.new) (K.faults outlets.old) (K.faults outlets.new) }
-    ensures ready { StaysReady run.now.setup.now run.now.seed (K.opened outlets.new) result held.new }
-    ensures serials { OnOk result (held.new.state.next ≤ 1088000513000001) }
-{
-    match perform_due(run, Phase::Before, held, outlets) {
-        Ok(Flow::Go) => make_steps(team, run, held, outlets),
-        Ok(Flow::Stop) => Ok(Flow::Stop),
-        Err(fault) => Err(fault),
-    }
-}
-
-// Runs a configuration from its opening state on.
-fn run_on<R: Threads + Sync, K: Outlets, G: Gate + Sync>(
-    team: &Team<R, G>,
-    run: &Run,
-    held: &mut Held,
-    outlets: &mut K,
-) -> Result<Flow, RunFault>
-    requires ready { IsReady run.now.setup.now run.now.seed (K.opened outlets.old) held.old }
-    requires first { held.old.state.step ≡ 0 }
-    requires room { held.old.state.next ≤ 1000001 }
-
-    ensures left { Leaves (course run.now.setup.now run.now.seed held.old.state) result held.new.state
-        (K.told outlets.old) (K.told outlets.new) (K.faults outlets.old) (K.faults outlets.new) }
-    ensures ready { StaysReady run.now.setup.now run.now.seed (K.opened outlets.new) result held.new }
-{
-    match begin_and_step(team, run, held, outlets) {
-        Ok(_) => perform_due(run, Phase::After, held, outlets),
-        Err(fault) => Err(fault),
-    }
-}
-
 /// Runs a configuration with the random words of a seed, where the files of its output have been opened in order.
-#[tactic(auto, unfolding(smol_meaning::specs::Run::run_of))]
 pub fn simulate<R: Threads + Sync, K: Outlets, G: Gate + Sync>(
     rt: &R,
     alloc: Global,
@@ -84,24 +29,8 @@ pub fn simulate<R: Threads + Sync, K: Outlets, G: Gate + Sync>(
     ensures cause { IsErrOf result RunFault.OutputFault → Rose (K.faults outlets.old) (K.faults outlets.new) }
     ensures no_fault { (result ≢ Err RunFault.OutputFault) → K.faults outlets.new ≡ K.faults outlets.old }
 {
-    let mut streams = Streams::of_seed(seed);
-    let state = match place_all(alloc, config, &mut streams) {
-        Ok(state) => state,
-        Err(fault) => return Err(fault_of_placing(fault)),
-    };
-    let pages = Pages::open(alloc, outlet_count(config))?;
-    let panels = Panels::of(alloc, config)?;
-    let setup = Setup::of(alloc, config, &panels)?;
-    let run = Run {
-        alloc,
-        setup: &setup,
-        seed,
-    };
-    let mut held = Held {
-        state,
-        streams,
-        pages,
-    };
-    run_on(&Team { rt, workers, gate }, &run, &mut held, outlets)?;
-    Ok(())
+    match make_run(rt, alloc, config, seed, workers, outlets, gate) {
+        Ok(_last) => Ok(()),
+        Err(fault) => Err(fault),
+    }
 }

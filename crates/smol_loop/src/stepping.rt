@@ -10,10 +10,11 @@ ghost use Rattle.smol_loop.specs.Parts.{EndsPart, IsReady, Leaves, StaysReady, o
 use crate::commands::perform_due;
 use crate::faults::fault_of_step;
 use crate::held::Held;
+use crate::readers::Readers;
 use crate::run::{Run, Team};
 use crate::run_fault::RunFault;
 use smol_commands::Flow;
-use smol_edge::{Gate, Outlets};
+use smol_edge::Gate;
 use smol_step::advance_with;
 use smol_types::{Config, Items, Phase, State, last_step};
 use std::mem;
@@ -70,23 +71,23 @@ fn make_step<R: Threads + Sync, G: Gate + Sync>(
 }
 
 // Performs the commands that are due at a state, and makes the step after it.
-fn perform_and_step<R: Threads + Sync, K: Outlets, G: Gate + Sync>(
+fn perform_and_step<R: Threads + Sync, W: Readers, G: Gate + Sync>(
     team: &Team<R, G>,
     run: &Run,
     held: &mut Held,
-    outlets: &mut K,
+    readers: &mut W,
 ) -> Result<Flow, RunFault>
-    requires ready { IsReady run.now.setup.now run.now.seed (K.opened outlets.old) held.old }
+    requires ready { IsReady run.now.setup.now run.now.seed (W.opened readers.old) held.old }
     requires further { held.old.state.step + 1 ≤ steps_of run.now.setup.now }
     requires room { held.old.state.next + 272000000 ≤ last_serial }
 
     ensures left { Leaves (one_step run.now.setup.now run.now.seed held.old.state) result held.new.state
-        (K.told outlets.old) (K.told outlets.new) (K.faults outlets.old) (K.faults outlets.new) }
-    ensures ready { StaysReady run.now.setup.now run.now.seed (K.opened outlets.new) result held.new }
+        (W.told readers.old) (W.told readers.new) (W.faults readers.old) (W.faults readers.new) }
+    ensures ready { StaysReady run.now.setup.now run.now.seed (W.opened readers.new) result held.new }
     ensures serials { OnOk result (held.new.state.next ≤ held.old.state.next + 272000000) }
     ensures step { result ≡ Ok Flow.Go → held.new.state.step ≡ held.old.state.step + 1 }
 {
-    match perform_due(run, Phase::At(held.state.step), held, outlets) {
+    match perform_due(run, Phase::At(held.state.step), held, readers) {
         Ok(Flow::Go) => make_step(team, run, &mut held.state),
         Ok(Flow::Stop) => Ok(Flow::Stop),
         Err(fault) => Err(fault),
@@ -94,28 +95,28 @@ fn perform_and_step<R: Threads + Sync, K: Outlets, G: Gate + Sync>(
 }
 
 /// Makes all steps of a run, with the commands that are due before each of them and after the last one.
-pub fn make_steps<R: Threads + Sync, K: Outlets, G: Gate + Sync>(
+pub fn make_steps<R: Threads + Sync, W: Readers, G: Gate + Sync>(
     team: &Team<R, G>,
     run: &Run,
     held: &mut Held,
-    outlets: &mut K,
+    readers: &mut W,
 ) -> Result<Flow, RunFault>
-    requires ready { IsReady run.now.setup.now run.now.seed (K.opened outlets.old) held.old }
+    requires ready { IsReady run.now.setup.now run.now.seed (W.opened readers.old) held.old }
     requires first { held.old.state.step ≡ 0 }
     requires room { held.old.state.next + 1088000256000000 ≤ last_serial }
 
     ensures left { Leaves (steps_from run.now.setup.now run.now.seed (steps_of run.now.setup.now) held.old.state) result held.new.state
-        (K.told outlets.old) (K.told outlets.new) (K.faults outlets.old) (K.faults outlets.new) }
-    ensures ready { StaysReady run.now.setup.now run.now.seed (K.opened outlets.new) result held.new }
+        (W.told readers.old) (W.told readers.new) (W.faults readers.old) (W.faults readers.new) }
+    ensures ready { StaysReady run.now.setup.now run.now.seed (W.opened readers.new) result held.new }
     ensures serials { OnOk result (held.new.state.next ≤ held.old.state.next + 1088000256000000) }
 {
     let last = steps_of(run.setup.config());
     for _step in 0..last {
-        match perform_and_step(team, run, held, outlets) {
+        match perform_and_step(team, run, held, readers) {
             Ok(Flow::Go) => {}
             Ok(Flow::Stop) => return Ok(Flow::Stop),
             Err(fault) => return Err(fault),
         }
     }
-    perform_due(run, Phase::At(last), held, outlets)
+    perform_due(run, Phase::At(last), held, readers)
 }

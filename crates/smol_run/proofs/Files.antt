@@ -1,10 +1,9 @@
 -- From what a source told of a file to the outcome of its contents.
 use Rattle.std.proofs.Common.{◌≡◌, ℕ, ◌+◌, ◌<◌, ◌++◌, List, length, Option, None, Some, IfSome, Result, Ok, Err, IsErr, IsErrAnd, refl, ap, ◌∙◌, length-append, arith, true, nat_lt}
-use Rattle.std.proofs.lemmas.List.{append-nil}
 use Rattle.smol_edge.specs.declared.take_fault.TakeFault.{TakeFault}
 use Rattle.smol_edge.specs.declared.take_fault.TakeFault.TheVariants as take
 use Rattle.smol_edge.specs.Faults.{Tells}
-use Rattle.smol_edge.specs.Source.{Reading, Opens, TakesAll, TakesFront}
+use Rattle.smol_edge.specs.Source.{Reading, Opens, TakesFront}
 use Rattle.smol_edge.specs.Outlets.{Written}
 use Rattle.smol_edge.proofs.Pieces.{Appends-nothing}
 use Rattle.smol_edge.proofs.Telling.{Tells-same}
@@ -23,17 +22,9 @@ use Rattle.smol_run.specs.Told.{refusal_of_take}
 use Rattle.smol_run.proofs.Cuts.{cut_at_once}
 
 -- a text that is too long is refused
-pub outcome_of_text-long : (seed : Option ℕ) (text : List ℕ) → 4194304 < length text → outcome_of_text seed text ≡ refused 0 (kind_text kind.TooLong)
+pub outcome_of_text-long : (seed runs : Option ℕ) (text : List ℕ) → 4194304 < length text → outcome_of_text seed runs text ≡ refused 0 (kind_text kind.TooLong)
 unfolding config_of
-outcome_of_text-long seed text long = let e : nat_lt 4194304 (length text) ≡ true = search arith in rw e refl
-
--- all that was taken of the file that was opened are its contents
-pub contents_taken : (name bytes : List ℕ) (a b c : Option Reading) → Tells a b (Opens name) → Tells b c (TakesAll bytes) → IfSome a (λ reading. reading.contents name ≡ Some bytes)
-contents_taken name bytes None b c opened taken = tt
-contents_taken name bytes (Some x) None c opened taken = absurd opened
-contents_taken name bytes (Some x) (Some y) None opened taken = absurd taken
-contents_taken name bytes (Some x) (Some y) (Some z) opened taken =
-    opened.left ∙ ap (λ left. Some left) (taken.takes.left ∙ ap (λ rest. bytes ++ rest) taken.none_left ∙ append-nil bytes)
+outcome_of_text-long seed runs text long = let e : nat_lt 4194304 (length text) ≡ true = search arith in rw e refl
 
 -- where more than this was taken of the file that was opened, its contents are longer
 pub contents_long : (name : List ℕ) (limit : ℕ) (a b c : Option Reading) → Tells a b (Opens name) → Tells b c (TakesFront (λ n. n ≡ limit + 1)) → IfSome a (λ reading. (bytes : List ℕ) × (reading.contents name ≡ Some bytes) × (limit < length bytes))
@@ -44,20 +35,20 @@ contents_long name limit (Some x) (Some y) (Some z) opened taken =
     (y.left, opened.left, omega (arith, ap length taken.takes.left, length-append taken.front z.left, taken.length_is))
 
 -- what goes with the outcome of the contents goes with that of the file
-pub goes_with_contents : {E : Type 0} (seed : Option ℕ) (name bytes : List ℕ) (result : Result Status E) (a : Option Reading) (w v : Option Written)
-    → IfSome a (λ reading. reading.contents name ≡ Some bytes) → Tells w v (GoesWith (outcome_of_text seed bytes) result)
-    → IfSome a (λ reading. Tells w v (GoesWithSome (outcome_of_file seed (reading.contents name)) result))
-goes_with_contents seed name bytes result None w v contents goes = tt
-goes_with_contents seed name bytes result (Some x) w v contents goes = rw contents goes
+pub goes_with_contents : {E : Type 0} (seed runs : Option ℕ) (name bytes : List ℕ) (result : Result Status E) (a : Option Reading) (w v : Option Written)
+    → IfSome a (λ reading. reading.contents name ≡ Some bytes) → Tells w v (GoesWith (outcome_of_text seed runs bytes) result)
+    → IfSome a (λ reading. Tells w v (GoesWithSome (outcome_of_file seed runs (reading.contents name)) result))
+goes_with_contents seed runs name bytes result None w v contents goes = tt
+goes_with_contents seed runs name bytes result (Some x) w v contents goes = rw contents goes
 
 -- the same of a file that is too long
-pub goes_with_long : {E : Type 0} (seed : Option ℕ) (name : List ℕ) (result : Result Status E) (a : Option Reading) (w v : Option Written)
+pub goes_with_long : {E : Type 0} (seed runs : Option ℕ) (name : List ℕ) (result : Result Status E) (a : Option Reading) (w v : Option Written)
     → IfSome a (λ reading. (bytes : List ℕ) × (reading.contents name ≡ Some bytes) × (4194304 < length bytes))
     → Tells w v (GoesWith (refused 0 (kind_text kind.TooLong)) result)
-    → IfSome a (λ reading. Tells w v (GoesWithSome (outcome_of_file seed (reading.contents name)) result))
-goes_with_long seed name result None w v long goes = tt
-goes_with_long seed name result (Some x) w v long goes =
-    goes_with_contents seed name long.0 result (Some x) w v long.1 (rw (outcome_of_text-long seed long.0 long.2) goes)
+    → IfSome a (λ reading. Tells w v (GoesWithSome (outcome_of_file seed runs (reading.contents name)) result))
+goes_with_long seed runs name result None w v long goes = tt
+goes_with_long seed runs name result (Some x) w v long goes =
+    goes_with_contents seed runs name long.0 result (Some x) w v long.1 (rw (outcome_of_text-long seed runs long.0 long.2) goes)
 
 -- a file that was opened is there
 pub opened_is_there : (name : List ℕ) (a b : Option Reading) (P : Type 0) → Tells a b (Opens name)

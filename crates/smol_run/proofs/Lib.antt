@@ -1,5 +1,6 @@
 pub mod Items
 pub mod Spelling
+mod Ensembles
 pub mod Openings
 pub mod Cuts
 pub mod EndedRuns

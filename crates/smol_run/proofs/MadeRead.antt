@@ -48,7 +48,7 @@ use Rattle.std.specs.Str.{bytes_eq}
 use Rattle.smol_config.specs.declared.whole.Needed.{Needed}
 use Rattle.smol_config.specs.Content.{content_of}
 use Rattle.smol_config.specs.Reactions.{reactions_said}
-use Rattle.smol_config.specs.Whole.{bounded, closed_in, has_chances, has_difstep, has_few_steps, has_room, needed_from, needed_in, whole_in}
+use Rattle.smol_config.specs.Whole.{bounded, closed_in, has_chances, has_difstep, has_few_steps, has_room, has_words, needed_from, needed_in, whole_in}
 use Rattle.smol_config.specs.Reader.{config_of, line_in, statement_in, read_from}
 use Rattle.smol_config.specs.Dim.{dim_in}
 use Rattle.smol_config.specs.Motion.{difstep_in}
@@ -160,10 +160,10 @@ box_facts n = record {
 -- lines say a configuration whose blocks are closed, which has what it needs, and in which nothing is too much
 whole_accepted : (before : List Said) (needed : Needed) → opening_line (block_of (blocks_said before)) ≡ None → needed_in before ≡ Ok needed
     → has_few_steps (content_of needed before) ≡ true → list_all has_difstep (content_of needed before).species ≡ true
-    → has_chances (chances_of (reactions_said before)) (content_of needed before) ≡ true → has_room (content_of needed before) ≡ true
-    → whole_in before ≡ Ok (content_of needed before)
+    → has_chances (chances_of (reactions_said before)) (content_of needed before) ≡ true → has_words (content_of needed before) ≡ true
+    → has_room (content_of needed before) ≡ true → whole_in before ≡ Ok (content_of needed before)
 unfolding whole_in closed_in bounded
-whole_accepted before needed closed is steps species chances room = rw (closed, is, steps, species, chances, room) refl
+whole_accepted before needed closed is steps species chances words room = rw (closed, is, steps, species, chances, words, room) refl
 
 -- there is room for the molecules of both lines
 room_for : (n : ℕ) → n ≤ 1000000 → nat_le (0 + n / 2 + (n - n / 2)) 1000000 ≡ true
@@ -173,7 +173,7 @@ room_for n few = le-leb (0 + n / 2 + (n - n / 2)) 1000000 (omega arith)
 binding_facts : (n : ℕ) → n ≤ 1000000
     → (read_from (placed_said n) (numbered 25 binding_lines) ≡ Ok (all_said n)) × IsOk (whole_in (all_said n))
 unfolding line_in statement_in statement_of words_in dim_in species_in difstep_in max_mol_in letter_in bounds_in boundaries_in decimal_of axis_named read_axes surface_line_in surface_of faces_named action_named action_in panels_in start_surface_in block_line_in rect_in shape_in default_name name_in panel_in block_name_in given_time_in time_step_in cmd_in act_in verb_in print_in printing_in outlet_in timing_in due_in when_in condition_in test_in sides_in reaction_in binding_radius_in left_in right_in arrangement_in needed_from content_of digits
-binding_facts n few = (refl, ap is_ok (whole_accepted (all_said n) _ refl refl refl refl refl (room_for n few)))
+binding_facts n few = (refl, ap is_ok (whole_accepted (all_said n) _ refl refl refl refl refl refl (room_for n few)))
 
 -- the line of the seed, and those of the molecules
 abbrev seed_stated : ℕ → Stated

@@ -11,28 +11,27 @@ use Rattle.smol_confined.proofs.Linked.{run_is_confined}
 use Rattle.smol_run.specs.declared.words.Job.{Job}
 use Rattle.smol_run.specs.declared.words.Job.TheVariants.{File, Make}
 use Rattle.smol_run.specs.Generated.{generated}
-use Rattle.smol_run.specs.Outcome.{seed_of}
 use Rattle.smol_run.specs.Ways.{FileGoesSafely, JobGoesSafely, TextGoesSafely}
 
-text_safe : (seed : Option ℕ) (text : List ℕ) → TextGoesSafely seed text
-text_safe seed text draft run accepted ran =
+text_safe : (given runs : Option ℕ) (text : List ℕ) → TextGoesSafely given runs text
+text_safe given runs text draft seed run accepted is_seed ran =
     let sound = accepted_is_sound text draft accepted in
     record {
       crosses_none = λ i d within. crosses_none (plates_of draft) (get_or run.moves i d).species (get_or run.moves i d).from (get_or run.moves i d).by;
-      confined = run_confines draft (seed_of seed draft) run sound ran;
-      states = (run_is_kept draft (seed_of seed draft) run sound ran).0;
-      stays = λ box closed. run_is_confined draft (seed_of seed draft) run box sound ran closed;
-      events = λ box closed. events_of_run_are_confined draft (seed_of seed draft) run box sound ran closed;
+      confined = run_confines draft seed run sound ran;
+      states = (run_is_kept draft seed run sound ran).0;
+      stays = λ box closed. run_is_confined draft seed run box sound ran closed;
+      events = λ box closed. events_of_run_are_confined draft seed run box sound ran closed;
     }
 
-file_safe : (seed : Option ℕ) (contents : Option (List ℕ)) → FileGoesSafely seed contents
-file_safe seed None = tt
-file_safe seed (Some text) = text_safe seed text
+file_safe : (given runs : Option ℕ) (contents : Option (List ℕ)) → FileGoesSafely given runs contents
+file_safe given runs None = tt
+file_safe given runs (Some text) = text_safe given runs text
 
 job_safe : (job : Option Job) (words : List (List ℕ)) (contents : List ℕ → Option (List ℕ)) → JobGoesSafely job words contents
 job_safe None words contents = tt
-job_safe (Some (File index seed workers)) words contents = file_safe seed (contents (slice_index_or words index []))
-job_safe (Some (Make n)) words contents = text_safe None (generated n)
+job_safe (Some (File index seed workers runs)) words contents = file_safe seed runs (contents (slice_index_or words index []))
+job_safe (Some (Make n)) words contents = text_safe None None (generated n)
 
 -- whatever the words and the files are
 pub all_safe : (job : Option Job) (words : List (List ℕ)) (a : Option Reading) → IfSome a (λ reading. JobGoesSafely job words reading.contents)

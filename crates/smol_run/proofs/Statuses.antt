@@ -1,5 +1,5 @@
 -- What the status of an answer says, by what the answer goes with.
-use Rattle.std.proofs.Common.{◌≡◌, ℕ, Option, None, Some, IfSome, Result, Ok, Err, sym, ◌∙◌, subst}
+use Rattle.std.proofs.Common.{◌≡◌, ℕ, Option, None, Some, IfSome, Result, Ok, Err, refl, sym, ◌∙◌, subst}
 use Rattle.smol_edge.specs.Faults.{Rose, Tells}
 use Rattle.smol_edge.specs.Outlets.{Written}
 use Rattle.smol_edge.specs.Source.{Reading}
@@ -55,3 +55,12 @@ write_failed job (Ok other) own before after is fits counts output = absurd ((fi
 write_failed job (Err stop.Input) own before after is fits counts output = absurd (cc)
 write_failed job (Err stop.Output) own before after is fits counts output = counts
 write_failed job (Err stop.Memory) own before after is fits counts output = absurd (cc)
+
+-- a call ends with the status of refused words only where they ask for nothing
+pub usage_is_misuse : (job : Option Job) (made : Result Status Stop) (own : Status) → own ≡ status_told made → FitsWords job made → own ≡ status.Usage
+    → job ≡ None
+usage_is_misuse None made own is fits usage = refl
+usage_is_misuse (Some job) (Ok other) own is fits usage = absurd (subst IsRun (sym is ∙ usage) fits)
+usage_is_misuse (Some job) (Err stop.Input) own is fits usage = absurd (cc)
+usage_is_misuse (Some job) (Err stop.Output) own is fits usage = absurd (cc)
+usage_is_misuse (Some job) (Err stop.Memory) own is fits usage = absurd (cc)

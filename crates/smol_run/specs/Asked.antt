@@ -12,4 +12,4 @@ AsksOnce name before after = (after.asked ≡ before.asked) ⊎ (after.asked ≡
 abbrev pub AsksForJob : Option Job → List (List ℕ) → Reading → Reading → Type 0
 AsksForJob None words before after = after ≡ before
 AsksForJob (Some (Make n)) words before after = after ≡ before
-AsksForJob (Some (File index seed workers)) words before after = AsksOnce (slice_index_or words index []) before after
+AsksForJob (Some (File index seed workers runs)) words before after = AsksOnce (slice_index_or words index []) before after

@@ -1,5 +1,5 @@
 -- How a run ends, and what it writes: the result of a call.
-use Rattle.std.specs.Prelude.{ℕ, List, [], ◌∷◌, ◌++◌, Option, None, Some, Result, Ok, Err, codes, slice_index_or, unwrap_or}
+use Rattle.std.specs.Prelude.{ℕ, zero, suc, ◌+◌, List, [], ◌∷◌, ◌++◌, Option, None, Some, Result, Ok, Err, codes, slice_index_or, unwrap_or}
 use Rattle.std.specs.Fmt.{decimal}
 use Rattle.smol_edge.specs.Outlets.{Piece}
 use Rattle.smol_types.specs.declared.draft.Draft.{Draft}
@@ -9,6 +9,10 @@ use Rattle.smol_config.specs.Reader.{config_of}
 use Rattle.smol_meaning.specs.Placement.{NoPlace}
 use Rattle.smol_meaning.specs.Stretch.{Ending, GoesOn, Stopped, Over, Stretch}
 use Rattle.smol_meaning.specs.Run.{run_of}
+use Rattle.smol_sweep.specs.declared.outcome.Outcome.{Outcome as End}
+use Rattle.smol_sweep.specs.Seeds.{seed_at}
+use Rattle.smol_sweep.specs.Table.{table_of}
+use Rattle.smol_loop.specs.EndOfRun.{end_of_run}
 use Rattle.smol_run.specs.declared.status.Status.{Status}
 use Rattle.smol_run.specs.declared.status.Status.TheVariants as status
 use Rattle.smol_run.specs.declared.words.Job.{Job}
@@ -31,7 +35,7 @@ abbrev pub misused : Outcome
 misused = record {
   status = status.Usage;
   names = [];
-  pieces = error_line (codes "usage: smol FILE [--seed N] [--workers N] or smol --make N");
+  pieces = error_line (codes "usage: smol FILE [--seed N] [--workers N] [--runs N] or smol --make N");
 }
 
 -- the text is refused at a line, or as a whole at line 0
@@ -62,29 +66,44 @@ outcome_of_run names (Ok stretch) = outcome_of_ending names stretch.pieces stret
 outcome_of_run names (Err none) =
     record { status = status.Refused; names = names; pieces = error_line (no_place_line none.line none.serial) }
 
--- the seed of a run: that of the words, else that of the configuration, else 0
+-- what becomes of so many runs whose seeds follow one another, of which the first has this number
+abbrev pub ends_from : Draft → ℕ → ℕ → ℕ → List End
+ends_from draft first number zero = []
+ends_from draft first number (suc left) = end_of_run draft (seed_at first number) ∷ ends_from draft first (number + 1) left
+
+-- so many runs, of which the first has this seed, print their table alone, whatever becomes of them. No file is opened
+abbrev pub outcome_of_runs : Draft → ℕ → ℕ → Outcome
+outcome_of_runs draft first count =
+    record { status = status.Done; names = []; pieces = (0, table_of first (ends_from draft first 0 count)) ∷ [] }
+
+-- a configuration is run once, or as many times as the words say
+abbrev pub outcome_by : Option ℕ → Draft → ℕ → Outcome
+outcome_by None draft seed = outcome_of_run draft.outputs (run_of draft seed)
+outcome_by (Some count) draft seed = outcome_of_runs draft seed count
+
+-- the seed of a run, or of the first: that of the words, else that of the configuration, else 0
 abbrev pub seed_of : Option ℕ → Draft → ℕ
 seed_of given draft = unwrap_or given (unwrap_or draft.seed 0)
 
 -- an accepted text is run, and another is refused at its first fault
-abbrev pub outcome_of_config : Option ℕ → Result Draft Fault → Outcome
-outcome_of_config seed (Ok draft) = outcome_of_run draft.outputs (run_of draft (seed_of seed draft))
-outcome_of_config seed (Err fault) = refused fault.line (kind_text fault.kind)
+abbrev pub outcome_of_config : Option ℕ → Option ℕ → Result Draft Fault → Outcome
+outcome_of_config seed runs (Ok draft) = outcome_by runs draft (seed_of seed draft)
+outcome_of_config seed runs (Err fault) = refused fault.line (kind_text fault.kind)
 
--- a text ends as what it says as a configuration, where the words give this seed or none
-abbrev pub outcome_of_text : Option ℕ → List ℕ → Outcome
-outcome_of_text seed text = outcome_of_config seed (config_of text)
+-- a text ends as what it says as a configuration, where the words give this seed or none, and this number of runs or none
+abbrev pub outcome_of_text : Option ℕ → Option ℕ → List ℕ → Outcome
+outcome_of_text seed runs text = outcome_of_config seed runs (config_of text)
 
 -- a file that isn't there has no outcome
-abbrev pub outcome_of_file : Option ℕ → Option (List ℕ) → Option Outcome
-outcome_of_file seed None = None
-outcome_of_file seed (Some text) = Some (outcome_of_text seed text)
+abbrev pub outcome_of_file : Option ℕ → Option ℕ → Option (List ℕ) → Option Outcome
+outcome_of_file seed runs None = None
+outcome_of_file seed runs (Some text) = Some (outcome_of_text seed runs text)
 
--- the text is the contents of the file that is named, or the one that is made, which is run without a seed of the words
+-- the text is the contents of the file that is named, or the one that is made, which is run once and without a seed of the words
 abbrev pub outcome_of_job : Option Job → List (List ℕ) → (List ℕ → Option (List ℕ)) → Option Outcome
 outcome_of_job None words contents = Some misused
-outcome_of_job (Some (File index seed workers)) words contents = outcome_of_file seed (contents (slice_index_or words index []))
-outcome_of_job (Some (Make n)) words contents = Some (outcome_of_text None (generated n))
+outcome_of_job (Some (File index seed workers runs)) words contents = outcome_of_file seed runs (contents (slice_index_or words index []))
+outcome_of_job (Some (Make n)) words contents = Some (outcome_of_text None None (generated n))
 
 -- what the words of the command line give over these files
 abbrev pub outcome_of : List (List ℕ) → (List ℕ → Option (List ℕ)) → Option Outcome

@@ -1,5 +1,5 @@
 -- Where molecules go in the run that the words ask for.
-use Rattle.std.specs.Prelude.{◌≡◌, ℕ, Bool, true, List, [], Option, None, Some, Ok, All, slice_index_or}
+use Rattle.std.specs.Prelude.{◌≡◌, ℕ, ◌<◌, Bool, true, List, [], Option, None, Some, Ok, All, slice_index_or}
 use Rattle.smol_geom.specs.declared.cuboid.Cuboid.{Cuboid}
 use Rattle.smol_types.specs.declared.draft.Draft.{Draft}
 use Rattle.smol_types.specs.State.{Fits}
@@ -10,6 +10,7 @@ use Rattle.smol_meaning.specs.Motion.{Move}
 use Rattle.smol_meaning.specs.Run.{run_of}
 use Rattle.smol_meaning.specs.Seen.{IsClosedBox, plates_of}
 use Rattle.smol_meaning.specs.Stretch.{Stretch}
+use Rattle.smol_sweep.specs.Seeds.{seed_at}
 use Rattle.smol_confined.specs.Laws.{EventsOfRunAreConfined, RunIsConfined}
 use Rattle.smol_run.specs.declared.words.Job.{Job}
 use Rattle.smol_run.specs.declared.words.Job.TheVariants.{File, Make}
@@ -28,18 +29,23 @@ pub record GoesSafely (draft : Draft) (seed : ℕ) (run : Stretch) : Type 0 wher
   pub stays : (box : Cuboid) → IsClosedBox draft box → RunIsConfined run box
   pub events : (box : Cuboid) → IsClosedBox draft box → EventsOfRunAreConfined draft seed run box
 
--- the run of this text, where it is accepted and begins, goes safely
-abbrev pub TextGoesSafely : Option ℕ → List ℕ → Type 0
-TextGoesSafely seed text =
-    (draft : Draft) (run : Stretch) → config_of text ≡ Ok draft → run_of draft (seed_of seed draft) ≡ Ok run
-    → GoesSafely draft (seed_of seed draft) run
+-- the seeds of the runs that are made: one run has its own seed, and so many have seeds that follow one another from the first on
+abbrev pub IsSeedOf : Option ℕ → ℕ → ℕ → Type 0
+IsSeedOf None first seed = seed ≡ first
+IsSeedOf (Some count) first seed = (number : ℕ) × (number < count) × (seed ≡ seed_at first number)
 
-abbrev pub FileGoesSafely : Option ℕ → Option (List ℕ) → Type 0
-FileGoesSafely seed None = Unit {0}
-FileGoesSafely seed (Some text) = TextGoesSafely seed text
+-- each run of this text, where it is accepted and the run begins, goes safely
+abbrev pub TextGoesSafely : Option ℕ → Option ℕ → List ℕ → Type 0
+TextGoesSafely given runs text =
+    (draft : Draft) (seed : ℕ) (run : Stretch) → config_of text ≡ Ok draft → IsSeedOf runs (seed_of given draft) seed
+    → run_of draft seed ≡ Ok run → GoesSafely draft seed run
 
--- the run that the words ask for over these files goes safely, where there is one
+abbrev pub FileGoesSafely : Option ℕ → Option ℕ → Option (List ℕ) → Type 0
+FileGoesSafely given runs None = Unit {0}
+FileGoesSafely given runs (Some text) = TextGoesSafely given runs text
+
+-- each run that the words ask for over these files goes safely, where there is one
 abbrev pub JobGoesSafely : Option Job → List (List ℕ) → (List ℕ → Option (List ℕ)) → Type 0
 JobGoesSafely None words contents = Unit {0}
-JobGoesSafely (Some (File index seed workers)) words contents = FileGoesSafely seed (contents (slice_index_or words index []))
-JobGoesSafely (Some (Make n)) words contents = TextGoesSafely None (generated n)
+JobGoesSafely (Some (File index seed workers runs)) words contents = FileGoesSafely seed runs (contents (slice_index_or words index []))
+JobGoesSafely (Some (Make n)) words contents = TextGoesSafely None None (generated n)

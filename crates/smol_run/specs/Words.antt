@@ -1,5 +1,5 @@
 -- What the words of the command line ask for.
-use Rattle.std.specs.Prelude.{◌≡◌, ℕ, ◌+◌, ◌<◌, ◌≤◌, Bool, false, not, nat_eq, unwrap_or, if◌then◌else◌, List, [], ◌∷◌, Option, None, Some, IsSome, codes, length, drop}
+use Rattle.std.specs.Prelude.{◌≡◌, ℕ, ◌+◌, ◌<◌, ◌≤◌, Bool, false, not, nat_eq, unwrap_or, if◌then◌else◌, List, [], ◌∷◌, Option, None, Some, IfSome, IsSome, codes, length, drop}
 use Rattle.std.specs.List.{starts_with}
 use Rattle.std.specs.Option.{option_map, option_and_then}
 use Rattle.std.specs.Result.{result_ok}
@@ -9,7 +9,7 @@ use Rattle.smol_line.specs.Numbers.{count_in}
 use Rattle.smol_run.specs.declared.words.Job.{Job}
 use Rattle.smol_run.specs.declared.words.Job.TheVariants.{File, Make}
 use Rattle.smol_run.specs.declared.words.Item.{Item}
-use Rattle.smol_run.specs.declared.words.Item.TheVariants.{Name, Seed, Workers}
+use Rattle.smol_run.specs.declared.words.Item.TheVariants.{Name, Seed, Workers, Runs}
 use Rattle.smol_run.specs.declared.words.Found.{Found}
 
 -- no file's name is empty or begins with two dashes
@@ -25,11 +25,16 @@ seed_in word = result_ok (count_of word 18446744073709551615)
 abbrev pub workers_in : List ℕ → Option ℕ
 workers_in word = result_ok (count_in 1 16 word)
 
+-- a number of runs: 1 to 20 decimal digits, from 1 to 1,000
+abbrev pub runs_in : List ℕ → Option ℕ
+runs_in word = result_ok (count_in 1 1000 word)
+
 -- a word that says what the number behind it is
 abbrev pub item_of_two : List ℕ → List ℕ → Option Item
 item_of_two word number =
     if bytes_eq word (codes "--seed") then option_map Seed (seed_in number)
-    else (if bytes_eq word (codes "--workers") then option_map Workers (workers_in number) else None)
+    else (if bytes_eq word (codes "--workers") then option_map Workers (workers_in number)
+    else (if bytes_eq word (codes "--runs") then option_map Runs (runs_in number) else None))
 
 -- an item before others, where all are there
 abbrev pub joined_items : Option Item → Option (List Item) → Option (List Item)
@@ -50,6 +55,7 @@ names_in [] = []
 names_in (Name index ∷ items) = index ∷ names_in items
 names_in (Seed seed ∷ items) = names_in items
 names_in (Workers workers ∷ items) = names_in items
+names_in (Runs runs ∷ items) = names_in items
 
 -- the seeds among the items
 abbrev pub seeds_in : List Item → List ℕ
@@ -57,6 +63,7 @@ seeds_in [] = []
 seeds_in (Name index ∷ items) = seeds_in items
 seeds_in (Seed seed ∷ items) = seed ∷ seeds_in items
 seeds_in (Workers workers ∷ items) = seeds_in items
+seeds_in (Runs runs ∷ items) = seeds_in items
 
 -- the numbers of workers among the items
 abbrev pub worker_counts_in : List Item → List ℕ
@@ -64,6 +71,15 @@ worker_counts_in [] = []
 worker_counts_in (Name index ∷ items) = worker_counts_in items
 worker_counts_in (Seed seed ∷ items) = worker_counts_in items
 worker_counts_in (Workers workers ∷ items) = workers ∷ worker_counts_in items
+worker_counts_in (Runs runs ∷ items) = worker_counts_in items
+
+-- the numbers of runs among the items
+abbrev pub run_counts_in : List Item → List ℕ
+run_counts_in [] = []
+run_counts_in (Name index ∷ items) = run_counts_in items
+run_counts_in (Seed seed ∷ items) = run_counts_in items
+run_counts_in (Workers workers ∷ items) = run_counts_in items
+run_counts_in (Runs runs ∷ items) = runs ∷ run_counts_in items
 
 -- the entry of a list that has exactly one
 abbrev pub only_entry : List ℕ → Option ℕ
@@ -77,20 +93,23 @@ optional_entry [] = Some None
 optional_entry (entry ∷ []) = Some (Some entry)
 optional_entry (first ∷ second ∷ entries) = None
 
--- a run of the file of this name with this seed or none, by the workers that are given, or else by one
-abbrev pub job_by : ℕ → Option ℕ → Option ℕ → Job
-job_by index seed given = File index seed (unwrap_or given 1)
+-- a run of the file of this name with this seed or none, by the workers that are given, or else by one. Or as many runs as are given
+abbrev pub job_by : ℕ → Option ℕ → Option ℕ → Option ℕ → Job
+job_by index seed given runs = File index seed (unwrap_or given 1) runs
 
--- exactly one name, at most one seed and at most one number of workers ask for a run of that file
-abbrev pub file_job : List ℕ → List ℕ → List ℕ → Option Job
-file_job names seeds worker_counts =
-    option_and_then (λ index. option_and_then (λ seed. option_map (job_by index seed) (optional_entry worker_counts))
+-- exactly one name, at most one seed, at most one number of workers and at most one number of runs ask for that file to be run
+abbrev pub file_job : List ℕ → List ℕ → List ℕ → List ℕ → Option Job
+file_job names seeds worker_counts run_counts =
+    option_and_then (λ index. option_and_then (λ seed. option_and_then (λ given. option_map (job_by index seed given)
+    (optional_entry run_counts))
+    (optional_entry worker_counts))
     (optional_entry seeds))
     (only_entry names)
 
 -- words that spell items ask for what the items ask for
 abbrev pub items_job : List (List ℕ) → Option Job
-items_job words = option_and_then (λ items. file_job (names_in items) (seeds_in items) (worker_counts_in items)) (items_of 0 words)
+items_job words = option_and_then (λ items. file_job (names_in items) (seeds_in items) (worker_counts_in items) (run_counts_in items))
+    (items_of 0 words)
 
 -- a number of molecules: 1 to 20 decimal digits, from 1 to 1,000,000
 abbrev pub molecules_in : List ℕ → Option ℕ
@@ -115,7 +134,7 @@ job_of words = made_or (made_of words) (items_job words)
 
 -- the file's name is one of so many words, where there is one
 abbrev pub NamesWord : ℕ → Job → Type 0
-NamesWord count (File index seed workers) = index < count
+NamesWord count (File index seed workers runs) = index < count
 NamesWord count (Make n) = Unit {0}
 
 -- there are 1 to 16 workers
@@ -125,8 +144,18 @@ pub record AreWorkers (workers : ℕ) : Type 0 where
 
 -- 1 to 16 workers run the file, where there is one
 abbrev pub RunsByWorkers : Job → Type 0
-RunsByWorkers (File index seed workers) = AreWorkers workers
+RunsByWorkers (File index seed workers runs) = AreWorkers workers
 RunsByWorkers (Make n) = Unit {0}
+
+-- there are 1 to 1,000 runs
+pub record AreRuns (runs : ℕ) : Type 0 where
+  pub least : 1 ≤ runs
+  pub most : runs ≤ 1000
+
+-- the file is run once, or 1 to 1,000 times
+abbrev pub MakesRuns : Job → Type 0
+MakesRuns (File index seed workers runs) = IfSome runs AreRuns
+MakesRuns (Make n) = Unit {0}
 
 -- there are 1 to 1,000,000 molecules
 pub record AreMolecules (n : ℕ) : Type 0 where
@@ -135,13 +164,13 @@ pub record AreMolecules (n : ℕ) : Type 0 where
 
 -- a text is made for 1 to 1,000,000 molecules alone
 abbrev pub MakesMolecules : Job → Type 0
-MakesMolecules (File index seed workers) = Unit {0}
+MakesMolecules (File index seed workers runs) = Unit {0}
 MakesMolecules (Make n) = AreMolecules n
 
 -- the words name no file: they are refused, or ask for a text that is made
 abbrev pub NamesNoFile : Option Job → Type 0
 NamesNoFile None = Unit {0}
-NamesNoFile (Some (File index seed workers)) = ⊥
+NamesNoFile (Some (File index seed workers runs)) = ⊥
 NamesNoFile (Some (Make n)) = Unit {0}
 
 -- how many words spell the item
@@ -149,24 +178,35 @@ abbrev pub item_len : Item → ℕ
 item_len (Name index) = 1
 item_len (Seed seed) = 2
 item_len (Workers workers) = 2
+item_len (Runs runs) = 2
 
 -- a name is one of so many words
 abbrev pub NamesWithin : ℕ → Item → Type 0
 NamesWithin count (Name index) = index < count
 NamesWithin count (Seed seed) = Unit {0}
 NamesWithin count (Workers workers) = Unit {0}
+NamesWithin count (Runs runs) = Unit {0}
 
 -- workers are 1 to 16
 abbrev pub WorkersWithin : Item → Type 0
 WorkersWithin (Name index) = Unit {0}
 WorkersWithin (Seed seed) = Unit {0}
 WorkersWithin (Workers workers) = AreWorkers workers
+WorkersWithin (Runs runs) = Unit {0}
+
+-- runs are 1 to 1,000
+abbrev pub RunsWithin : Item → Type 0
+RunsWithin (Name index) = Unit {0}
+RunsWithin (Seed seed) = Unit {0}
+RunsWithin (Workers workers) = Unit {0}
+RunsWithin (Runs runs) = AreRuns runs
 
 -- the item is what the words spell first, from this index on
 pub record StandsAt (item : Item) (index : ℕ) (words : List (List ℕ)) : Type 0 where
   pub fits : index + item_len item ≤ length words
   pub within : NamesWithin (length words) item
   pub workers : WorkersWithin item
+  pub runs : RunsWithin item
   pub first : items_of index (drop index words)
       ≡ joined_items (Some item) (items_of (index + item_len item) (drop (index + item_len item) words))
 
@@ -175,9 +215,11 @@ abbrev pub Finds : Item → Found → Found → Type 0
 Finds (Name index) old new = (old.name ≡ None) × (new ≡ record old { name = Some index })
 Finds (Seed seed) old new = (old.seed ≡ None) × (new ≡ record old { seed = Some seed })
 Finds (Workers workers) old new = (old.workers ≡ None) × (new ≡ record old { workers = Some workers })
+Finds (Runs runs) old new = (old.runs ≡ None) × (new ≡ record old { runs = Some runs })
 
 -- one of its kind was found before
 abbrev pub IsSecond : Item → Found → Type 0
 IsSecond (Name index) found = IsSome found.name
 IsSecond (Seed seed) found = IsSome found.seed
 IsSecond (Workers workers) found = IsSome found.workers
+IsSecond (Runs runs) found = IsSome found.runs

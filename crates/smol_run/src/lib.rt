@@ -4,7 +4,9 @@
 #[cfg(test)]
 mod caller;
 mod ended;
+mod ensemble;
 mod error_lines;
+mod given;
 mod law;
 mod loss;
 mod make;
@@ -14,6 +16,7 @@ mod outputs;
 mod program;
 mod refusal;
 mod run;
+mod single;
 mod status;
 mod stop;
 #[cfg(test)]

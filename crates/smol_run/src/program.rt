@@ -1,14 +1,16 @@
 //! The top call.
 ghost use Rattle.std.specs.Prelude.{◌≡◌, ◌≢◌, ◌≤◌, None, map, string_bytes, IfOk, IfSome};
 ghost use Rattle.smol_edge.specs.Faults.{Rose, Tells};
-ghost use Rattle.smol_run.specs.Words.{job_of, NamesNoFile};
+ghost use Rattle.smol_run.specs.Words.{AreRuns, AreWorkers, job_of, NamesNoFile};
 ghost use Rattle.smol_run.specs.Generated.{generated};
 ghost use Rattle.smol_run.specs.Asked.{AsksForJob, AsksOnce};
 ghost use Rattle.smol_run.specs.Ends.{CountsLoss, CountsReads, CountsWrites, EndsWithSome, FitsWords, GoesWith, GoesWithSome, IsDefinite, IsFrontOf, IsLost, IsMisuse, IsRun, IsUnread};
 ghost use Rattle.smol_run.specs.Ways.{JobGoesSafely};
-ghost use Rattle.smol_run.specs.Outcome.{outcome_of, outcome_of_file, outcome_of_text, refused, seed_of};
+ghost use Rattle.smol_run.specs.Outcome.{outcome_by, outcome_of, outcome_of_file, outcome_of_text, refused, seed_of};
 
+use crate::ensemble::run_ensemble;
 use crate::error_lines::{fault_text, tell};
+use crate::given::Given;
 use crate::loss::Loss;
 use crate::make::make_config;
 use crate::refusal::{refusal_of, refusal_of_take};
@@ -28,7 +30,7 @@ const MOST_BYTES: usize = 4_194_304;
 /// How many workers run a text that is made.
 const MAKE_WORKERS: u32 = 4;
 
-const USAGE: &[u8] = b"usage: smol FILE [--seed N] [--workers N] or smol --make N\n";
+const USAGE: &[u8] = b"usage: smol FILE [--seed N] [--workers N] [--runs N] or smol --make N\n";
 
 /// Runs what the words of the command line ask for over a source and outlets, and answers the exit status.
 /// Files are read from the source. Lines for people who read along go to outlet 1, the rest where the
@@ -104,14 +106,19 @@ fn run_words<R: Threads + Sync, S: Source, K: Outlets, G: Gate + Sync>(
                 index,
                 seed,
                 workers,
+                runs,
             },
         ) => {
+            let given = Given {
+                seed,
+                workers,
+                runs,
+            };
             run_file(
                 rt,
                 alloc,
                 words[index].as_str(),
-                seed,
-                workers,
+                given,
                 source,
                 outlets,
                 gate,
@@ -142,33 +149,48 @@ fn seed_of(given: Option<u64>, config: &Config) -> u64
     given.or(config.seed()).unwrap_or(0)
 }
 
-// Runs a text that isn't too long, with the seed and by the workers that the words give.
-fn run_text<R: Threads + Sync, K: Outlets, G: Gate + Sync>(
+// Runs a configuration once, or as many times as the words say.
+fn run_given<R: Threads + Sync, K: Outlets, G: Gate + Sync>(
     rt: &R,
     alloc: Global,
-    bytes: &[u8],
-    seed: Option<u64>,
-    workers: u32,
+    config: &Config,
+    given: Given,
     outlets: &mut K,
     gate: &G,
 ) -> Result<Status, Loss>
     requires opened { K.opened outlets.old ≡ 0 }
-    requires least { 1 ≤ workers }
-    requires most { workers ≤ 16 }
-    ensures ended { Tells (K.told outlets.old) (K.told outlets.new) (GoesWith (outcome_of_text seed bytes.now) result) }
+    requires workers { AreWorkers given.workers }
+    requires runs { IfSome given.runs AreRuns }
+    ensures ended { Tells (K.told outlets.old) (K.told outlets.new)
+        (GoesWith (outcome_by given.runs config.now (seed_of given.seed config.now)) result) }
+    ensures status { IfOk result IsRun }
+    ensures faults { CountsLoss result (K.faults outlets.old) (K.faults outlets.new) }
+{
+    let seed = seed_of(given.seed, config);
+    match given.runs {
+        Some(count) => run_ensemble(rt, alloc, config, seed, count, given.workers, outlets),
+        None => run_config(rt, alloc, config, seed, given.workers, outlets, gate),
+    }
+}
+
+// Runs a text that isn't too long, as the words say.
+fn run_text<R: Threads + Sync, K: Outlets, G: Gate + Sync>(
+    rt: &R,
+    alloc: Global,
+    bytes: &[u8],
+    given: Given,
+    outlets: &mut K,
+    gate: &G,
+) -> Result<Status, Loss>
+    requires opened { K.opened outlets.old ≡ 0 }
+    requires workers { AreWorkers given.workers }
+    requires runs { IfSome given.runs AreRuns }
+    ensures ended { Tells (K.told outlets.old) (K.told outlets.new) (GoesWith (outcome_of_text given.seed given.runs bytes.now) result) }
     ensures status { IfOk result IsRun }
     ensures faults { CountsLoss result (K.faults outlets.old) (K.faults outlets.new) }
 {
     match read_config(alloc, bytes) {
-        Ok(config) => run_config(
-            rt,
-            alloc,
-            &config,
-            seed_of(seed, &config),
-            workers,
-            outlets,
-            gate,
-        ),
+        Ok(config) => run_given(rt, alloc, &config, given, outlets, gate),
         Err(fault) => {
             let refusal = refusal_of(fault)?;
             refuse(alloc, outlets, refusal.line, refusal.kind.text())
@@ -176,7 +198,7 @@ fn run_text<R: Threads + Sync, K: Outlets, G: Gate + Sync>(
     }
 }
 
-// Runs the text that is made for so many molecules, without a seed of the words.
+// Runs the text that is made for so many molecules, once and without a seed of the words.
 fn run_made<R: Threads + Sync, K: Outlets, G: Gate + Sync>(
     rt: &R,
     alloc: Global,
@@ -187,31 +209,35 @@ fn run_made<R: Threads + Sync, K: Outlets, G: Gate + Sync>(
     requires opened { K.opened outlets.old ≡ 0 }
     requires least { 1 ≤ n }
     requires most { n ≤ 1000000 }
-    ensures ended { Tells (K.told outlets.old) (K.told outlets.new) (GoesWith (outcome_of_text None (generated n)) result) }
+    ensures ended { Tells (K.told outlets.old) (K.told outlets.new) (GoesWith (outcome_of_text None None (generated n)) result) }
     ensures status { IfOk result IsRun }
     ensures faults { CountsLoss result (K.faults outlets.old) (K.faults outlets.new) }
 {
     let text = make_config(alloc, n)?;
-    run_text(rt, alloc, &text, None, MAKE_WORKERS, outlets, gate)
+    let given = Given {
+        seed: None,
+        workers: MAKE_WORKERS,
+        runs: None,
+    };
+    run_text(rt, alloc, &text, given, outlets, gate)
 }
 
-// Runs the file of this name, with the seed and by the workers that the words give.
+// Runs the file of this name, as the words say.
 #[tactic(auto, using(crate::proofs::Files::opened_is_there))]
 fn run_file<R: Threads + Sync, S: Source, K: Outlets, G: Gate + Sync>(
     rt: &R,
     alloc: Global,
     name: &str,
-    seed: Option<u64>,
-    workers: u32,
+    given: Given,
     source: &mut S,
     outlets: &mut K,
     gate: &G,
 ) -> Result<Status, Stop>
     requires opened { K.opened outlets.old ≡ 0 }
-    requires least { 1 ≤ workers }
-    requires most { workers ≤ 16 }
+    requires workers { AreWorkers given.workers }
+    requires runs { IfSome given.runs AreRuns }
     ensures ended { IfSome (S.told source.old) (λ reading. Tells (K.told outlets.old) (K.told outlets.new)
-        (GoesWithSome (outcome_of_file seed (reading.contents name.now)) result)) }
+        (GoesWithSome (outcome_of_file given.seed given.runs (reading.contents name.now)) result)) }
     ensures absent { IfSome (S.told source.old) (λ reading. reading.contents name.now ≡ None → IsUnread result) }
     ensures status { IfOk result IsRun }
     ensures asked { Tells (S.told source.old) (S.told source.new) (AsksOnce name.now) }
@@ -222,7 +248,7 @@ fn run_file<R: Threads + Sync, S: Source, K: Outlets, G: Gate + Sync>(
         return Err(Stop::Input);
     };
     match take_all(alloc, source, MOST_BYTES) {
-        Ok(text) => Ok(run_text(rt, alloc, &text, seed, workers, outlets, gate)?),
+        Ok(text) => Ok(run_text(rt, alloc, &text, given, outlets, gate)?),
         Err(fault) => {
             let refusal = refusal_of_take(fault)?;
             Ok(refuse(alloc, outlets, refusal.line, refusal.kind.text())?)

@@ -22,7 +22,7 @@ const LINES: [&str; 11] = [
     "cmd a molcount stdout",
 ];
 
-const USAGE: &str = "usage: smol FILE [--seed N] [--workers N] or smol --make N\n";
+const USAGE: &str = "usage: smol FILE [--seed N] [--workers N] [--runs N] or smol --make N\n";
 
 /// A call over a source with the one file `f`, and how it is to end.
 #[derive(Clone, Copy)]
@@ -120,6 +120,16 @@ fn ends_with_status_and_bytes(rt: HostRuntime) -> Result<(), Fail> {
         },
         Row {
             words: &["--"],
+            failing_writes: &[1],
+            ..unwritten
+        },
+        Row {
+            words: &["f", "--runs", "3", "--seed", "5"],
+            stdout: "5 0 3\n6 0 3\n7 0 3\nmin 3\nmax 3\nsum 9\n",
+            ..counted
+        },
+        Row {
+            words: &["--runs", "2", "f"],
             failing_writes: &[1],
             ..unwritten
         },

@@ -2,13 +2,16 @@
 ghost use Rattle.std.specs.Prelude.{◌≡◌, ◌+◌, ◌<◌, None, IfOk, IfSome, MatchResult, drop, length, map, string_bytes, unwrap_or};
 ghost use Rattle.std.specs.Result.{result_ok};
 ghost use Rattle.std.specs.Option.{option_map};
-ghost use Rattle.smol_run.specs.Words.{AreMolecules, AreWorkers, Finds, is_file_name, IsSecond, item_of_two, items_job, items_of, job_of, made_of, MakesMolecules, molecules_in, NamesWord, RunsByWorkers, seed_in, StandsAt, item_len, workers_in};
+ghost use Rattle.smol_run.specs.Words.{AreMolecules, AreRuns, AreWorkers, Finds, is_file_name, IsSecond, item_of_two, items_job, items_of, job_of, made_of, MakesMolecules, MakesRuns, molecules_in, NamesWord, runs_in, RunsByWorkers, seed_in, StandsAt, item_len, workers_in};
 
 use smol_line::count_in;
 use smol_num::read_digits;
 
 /// The most workers that a run may have.
 const MOST_WORKERS: u64 = 16;
+
+/// The most runs that one call makes.
+const MOST_RUNS: u64 = 1_000;
 
 /// The most molecules for which a text is made.
 const MOST_MOLECULES: u64 = 1_000_000;
@@ -17,11 +20,12 @@ const MOST_MOLECULES: u64 = 1_000_000;
 #[derive(Clone, Copy, Debug, PartialEq, Eq)]
 pub enum Job {
     /// A run of the file whose name is the word at this index, with a seed where the words give one,
-    /// by this many workers.
+    /// by this many workers. Or so many runs, 1 to 1,000, whose seeds follow one another from that seed on.
     File {
         index: usize,
         seed: Option<u64>,
         workers: u32,
+        runs: Option<u32>,
     },
     /// A run of the text that is made for `n` molecules, 1 to 1,000,000.
     Make {
@@ -42,6 +46,8 @@ enum Item {
     Seed(u64),
     /// The number behind `--workers`.
     Workers(u32),
+    /// The number behind `--runs`.
+    Runs(u32),
 }
 
 /// What the words have given so far.
@@ -50,6 +56,7 @@ struct Found {
     name: Option<usize>,
     seed: Option<u64>,
     workers: Option<u32>,
+    runs: Option<u32>,
 }
 
 impl Found {
@@ -61,19 +68,21 @@ impl Found {
             Item::Name(index) => self.name.replace(index).is_some(),
             Item::Seed(seed) => self.seed.replace(seed).is_some(),
             Item::Workers(workers) => self.workers.replace(workers).is_some(),
+            Item::Runs(runs) => self.runs.replace(runs).is_some(),
         };
         if was_given { Err(WordFault) } else { Ok(()) }
     }
 
     /// What was given asks for. One worker runs it where no number of workers was given.
     fn job(self) -> Result<Job, WordFault>
-        ensures { result_ok result ≡ option_map (λ index. Job.File index self.seed (unwrap_or self.workers 1)) self.name }
+        ensures { result_ok result ≡ option_map (λ index. Job.File index self.seed (unwrap_or self.workers 1) self.runs) self.name }
     {
         let index = self.name.ok_or(WordFault)?;
         Ok(Job::File {
             index,
             seed: self.seed,
             workers: self.workers.unwrap_or(1),
+            runs: self.runs,
         })
     }
 }
@@ -83,6 +92,7 @@ pub fn read_words(words: &[String]) -> Result<Job, WordFault>
     ensures job { result_ok result ≡ job_of (map (λ word. string_bytes word) words.now) }
     ensures named { IfOk result (NamesWord (length words.now)) }
     ensures workers { IfOk result RunsByWorkers }
+    ensures runs { IfOk result MakesRuns }
     ensures molecules { IfOk result MakesMolecules }
 {
     match made_of(words) {
@@ -109,12 +119,14 @@ fn items_job(words: &[String]) -> Result<Job, WordFault>
     ensures job { result_ok result ≡ items_job (map (λ word. string_bytes word) words.now) }
     ensures named { IfOk result (NamesWord (length words.now)) }
     ensures workers { IfOk result RunsByWorkers }
+    ensures runs { IfOk result MakesRuns }
     ensures molecules { IfOk result MakesMolecules }
 {
     let mut found = Found {
         name: None,
         seed: None,
         workers: None,
+        runs: None,
     };
     let mut index = 0;
     while index < words.len() {
@@ -148,7 +160,7 @@ fn item_len(item: Item) -> usize
 {
     match item {
         Item::Name(_) => 1,
-        Item::Seed(_) | Item::Workers(_) => 2,
+        Item::Seed(_) | Item::Workers(_) | Item::Runs(_) => 2,
     }
 }
 
@@ -166,6 +178,8 @@ fn item_of_two(word: &[u8], number: &[u8]) -> Result<Item, WordFault>
         Ok(Item::Seed(seed_in(number)?))
     } else if word == b"--workers".as_slice() {
         Ok(Item::Workers(workers_in(number)?))
+    } else if word == b"--runs".as_slice() {
+        Ok(Item::Runs(runs_in(number)?))
     } else {
         Err(WordFault)
     }
@@ -193,6 +207,16 @@ fn workers_in(word: &[u8]) -> Result<u32, WordFault>
 {
     match count_in(1, MOST_WORKERS, word) {
         Ok(workers) => Ok(workers as u32),
+        Err(_) => Err(WordFault),
+    }
+}
+
+fn runs_in(word: &[u8]) -> Result<u32, WordFault>
+    ensures value { result_ok result ≡ runs_in word.now }
+    ensures within { IfOk result AreRuns }
+{
+    match count_in(1, MOST_RUNS, word) {
+        Ok(runs) => Ok(runs as u32),
         Err(_) => Err(WordFault),
     }
 }

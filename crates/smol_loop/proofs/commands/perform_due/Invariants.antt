@@ -12,8 +12,8 @@ invariant-loop-c g l =
     let first = l.initial.held.state in
     record {
       left : Left (commands_from draft seed l.phase l.c (drop l.c draft.commands) l.held.state) (commands_from draft seed l.phase 0 draft.commands first)
-          (g.K.Outlets.told l.initial.outlets) (g.K.Outlets.told l.outlets) (g.K.Outlets.faults l.initial.outlets) (g.K.Outlets.faults l.outlets);
-      ready : IsReady draft seed (g.K.Outlets.opened l.outlets) l.held;
+          (g.W.Readers.told l.initial.readers) (g.W.Readers.told l.readers) (g.W.Readers.faults l.initial.readers) (g.W.Readers.faults l.readers);
+      ready : IsReady draft seed (g.W.Readers.opened l.readers) l.held;
       next : l.held.state.next ≤ first.next + 1000000 * l.c;
       step : l.held.state.step ≡ first.step;
     }

@@ -12,8 +12,8 @@ invariant-loop-step g l =
     let first = l.initial.held.state in
     record {
       left : Left (steps_from draft seed (steps_of draft - l._step) l.held.state) (steps_from draft seed (steps_of draft) first)
-          (g.K.Outlets.told l.initial.outlets) (g.K.Outlets.told l.outlets) (g.K.Outlets.faults l.initial.outlets) (g.K.Outlets.faults l.outlets);
-      ready : IsReady draft seed (g.K.Outlets.opened l.outlets) l.held;
+          (g.W.Readers.told l.initial.readers) (g.W.Readers.told l.readers) (g.W.Readers.faults l.initial.readers) (g.W.Readers.faults l.readers);
+      ready : IsReady draft seed (g.W.Readers.opened l.readers) l.held;
       next : l.held.state.next ≤ first.next + 272000000 * l._step;
       step : l.held.state.step ≡ l._step;
     }

@@ -5,7 +5,7 @@ use Rattle.smol_run.specs.Outcome.{outcome_of}
 use Rattle.smol_run.specs.Words.{job_of}
 use Rattle.smol_run.proofs.Cuts.{front_told}
 use Rattle.smol_run.proofs.Safety.{all_safe}
-use Rattle.smol_run.proofs.Statuses.{absent_is_lost, definite_ends, read_failed, write_failed}
+use Rattle.smol_run.proofs.Statuses.{absent_is_lost, definite_ends, read_failed, usage_is_misuse, write_failed}
 use Rattle.smol_run.proofs.program.run_program.Goals as goal
 
 pub returns-clause-outcome : goal.returns-clause-outcome
@@ -37,3 +37,8 @@ pub returns-clause-output : goal.returns-clause-output
 returns-clause-output g c =
     write_failed (job_of (map (λ word. string_bytes word) c.args.words.now)) c.run_words-made.result c.status_told.result _ _
     c.status_told.ensures c.run_words-made.ensures.fits c.run_words-made.ensures.writes
+
+pub returns-clause-usage : goal.returns-clause-usage
+returns-clause-usage g c =
+    usage_is_misuse (job_of (map (λ word. string_bytes word) c.args.words.now)) c.run_words-made.result c.status_told.result
+    c.status_told.ensures c.run_words-made.ensures.fits

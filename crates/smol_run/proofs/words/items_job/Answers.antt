@@ -1,7 +1,7 @@
 use Rattle.std.proofs.Common.{◌≡◌, ◌∙◌, ap, length, map, None, string_bytes, arith, rules}
 use Rattle.std.proofs.lemmas.List.{length-map}
 use Rattle.smol_run.specs.Words.{items_job}
-use Rattle.smol_run.proofs.Items.{job_of_more, job_of_more-Finds, job_of_more-IsSecond, named-Finds, workers-Finds}
+use Rattle.smol_run.proofs.Items.{job_of_more, job_of_more-Finds, job_of_more-IsSecond, named-Finds, runs-Finds, workers-Finds}
 use Rattle.smol_run.proofs.words.items_job.Goals as goal
 
 -- the item is a second of its kind
@@ -21,5 +21,6 @@ loop-index-preserved c =
       within = omega (arith, c.in_ok-item.ensures.fits, count);
       named = named-Finds c.in_ok-item.item c.loop-index.found c.add.new.self (length c.args.words.now) c.in_ok-add.ensures (rw count at c.in_ok-item.ensures.within) c.loop-index.invariant.named;
       workers = workers-Finds c.in_ok-item.item c.loop-index.found c.add.new.self c.in_ok-add.ensures c.in_ok-item.ensures.workers c.loop-index.invariant.workers;
+      runs = runs-Finds c.in_ok-item.item c.loop-index.found c.add.new.self c.in_ok-add.ensures c.in_ok-item.ensures.runs c.loop-index.invariant.runs;
       same = c.loop-index.invariant.same ∙ ap (job_of_more c.loop-index.found) c.in_ok-item.ensures.first ∙ job_of_more-Finds c.in_ok-item.item c.loop-index.found c.add.new.self _ c.in_ok-add.ensures;
     })

@@ -3,7 +3,7 @@ use Rattle.smol_types.specs.declared.command.Phase.TheVariants as phase
 use Rattle.smol_meaning.specs.Run.{phase_of}
 use Rattle.smol_loop.proofs.Joining.{ends_there, goes_on, last_leaves}
 use Rattle.smol_loop.proofs.Whole.{course_left, resumed_fails, resumed_goes_on}
-use Rattle.smol_loop.proofs.simulation.run_on.Goals as goal
+use Rattle.smol_loop.proofs.course.run_on.Goals as goal
 
 pub returns-in-Ok-clause-left : goal.returns-in-Ok-clause-left
 returns-in-Ok-clause-left g c =

@@ -2,7 +2,7 @@ use Rattle.std.proofs.Common.{Err}
 use Rattle.smol_meaning.specs.Run.{steps_from, steps_of}
 use Rattle.smol_loop.specs.Parts.{up_to_end}
 use Rattle.smol_loop.proofs.Joining.{all_left, ends_there, goes_on, last_leaves}
-use Rattle.smol_loop.proofs.simulation.begin_and_step.Goals as goal
+use Rattle.smol_loop.proofs.course.begin_and_step.Goals as goal
 
 pub returns-in-Ok-Go-clause-left : goal.returns-in-Ok-Go-clause-left
 returns-in-Ok-Go-clause-left g c =
