@@ -8,19 +8,22 @@ use Rattle.smol_types.specs.declared.fault.Kind.TheVariants.{OutOfRange, Probabi
 use Rattle.smol_types.specs.Steps.{last_step}
 use Rattle.smol_line.specs.Axes.{walls_of}
 use Rattle.smol_line.specs.Checks.{unless}
-use Rattle.smol_reactions.specs.Content.{are_shared, chances_of}
+use Rattle.smol_reactions.specs.Content.{are_shared, chances_of, reactions_of}
+use Rattle.smol_reactions.specs.Rates.{all_rated}
 use Rattle.smol_config.specs.declared.motion.Motion.{Motion}
 use Rattle.smol_config.specs.declared.tables.Tables.{Tables}
 use Rattle.smol_config.specs.declared.whole.Needed.{Needed}
 use Rattle.smol_config.specs.declared.whole.Parts.{Parts}
 use Rattle.smol_config.specs.Said.{Said}
 use Rattle.smol_config.specs.MaxMol.{limit_of}
+use Rattle.smol_config.specs.PairOrder.{nearest_by}
 use Rattle.smol_config.specs.Reactions.{reactions_said}
 use Rattle.smol_config.specs.Species.{species_of}
 use Rattle.smol_config.specs.Content.{content_of, species_from, started}
 use Rattle.smol_config.specs.Looked.{Looked}
 use Rattle.smol_config.specs.Tables.{Holds, drafted, species_made}
 use Rattle.smol_config.specs.Whole.{bounded, has_chances, has_difstep, has_few_steps, needed_from, needed_in}
+use Rattle.smol_reactions.proofs.Rated.{shared_kept}
 use Rattle.smol_config.proofs.SpeciesNames.{species_are}
 use Rattle.smol_config.proofs.WholeSound.{length-species_from}
 
@@ -43,7 +46,7 @@ module _ (needed : Needed) (tables : Tables) (before : List Said) (h : Holds tab
         surfaces = h.blocks.surfaces i;
         panels = h.blocks.panels i;
         compartments = h.blocks.compartments i;
-        reactions = h.reactions.list i;
+        reactions = all_rated (unsigned_abs needed.step) (h.reactions.list i);
         placings = known.placings;
         commands = known.commands;
         outputs = outputs i;
@@ -52,6 +55,7 @@ module _ (needed : Needed) (tables : Tables) (before : List Said) (h : Holds tab
         step = needed.step;
         max_mol = limit_of known.max_mol;
         seed = known.seed;
+        nearest = nearest_by known.nearest;
       }
 
 pub length-species_made : (time : ℤ) (motions : List Motion) (number : ℕ) (names : List (List ℕ)) → length (species_made time motions number names) ≡ length names
@@ -62,7 +66,8 @@ length-species_made time motions number (name ∷ names) = ap suc (length-specie
 pub shared_held : (needed : Needed) (tables : Tables) (before : List Said) → Holds tables before → are_shared (length tables.species.names) tables.reactions.list.items tables.reactions.chances.items ≡ has_chances (chances_of (reactions_said before)) (content_of needed before)
 unfolding content_of
 shared_held needed tables before h =
-    rw (length-species_from needed.step before 0 (species_of before), ap (λ (known : Looked). known.species) h.plain, h.reactions.list, h.reactions.chances) refl
+    rw (length-species_from needed.step before 0 (species_of before), ap (λ (known : Looked). known.species) h.plain, h.reactions.list, h.reactions.chances)
+    (sym (shared_kept (length (species_of before)) (unsigned_abs needed.step) (reactions_of (reactions_said before)) (chances_of (reactions_said before))))
 
 -- too many steps are told first
 pub bounded-many : (chances : List (Option ℕ)) (draft : Draft) → has_few_steps draft ≡ false → bounded chances draft ≡ Err TooMany
@@ -106,23 +111,3 @@ needed_held tables before h found is = sym (is ∙ ap (λ (known : Looked). need
 pub unless_fails : (test : Bool) (kind why : Kind) → Some kind ≡ unless test why → (test ≡ false) × (kind ≡ why)
 unless_fails true kind why is = absurd cc
 unless_fails false kind why is = (refl, cc)
-
--- drafts are equal where each of their fields is
-pub same_draft : (a b : Draft) → a.dims ≡ b.dims → a.species ≡ b.species → a.walls ≡ b.walls → a.surfaces ≡ b.surfaces → a.panels ≡ b.panels → a.compartments ≡ b.compartments → a.reactions ≡ b.reactions → a.placings ≡ b.placings → a.commands ≡ b.commands → a.outputs ≡ b.outputs → a.start ≡ b.start → a.stop ≡ b.stop → a.step ≡ b.step → a.max_mol ≡ b.max_mol → a.seed ≡ b.seed → a ≡ b
-same_draft a b dims species walls surfaces panels compartments reactions placings commands outputs start stop step max_mol seed = λ i. record {
-  dims = dims i;
-  species = species i;
-  walls = walls i;
-  surfaces = surfaces i;
-  panels = panels i;
-  compartments = compartments i;
-  reactions = reactions i;
-  placings = placings i;
-  commands = commands i;
-  outputs = outputs i;
-  start = start i;
-  stop = stop i;
-  step = step i;
-  max_mol = max_mol i;
-  seed = seed i;
-}

@@ -1,5 +1,5 @@
 -- What holds so far is kept by what each line says.
-use Rattle.std.proofs.Common.{◌≡◌, ◌+◌, ◌<◌, ◌≤◌, ◌||◌, true, false, ℕ, zero, suc, nat_le, List, [], ◌∷◌, ◌++◌, length, All, Option, None, Some, IfSome, IsSomeAnd, arith, subst}
+use Rattle.std.proofs.Common.{◌≡◌, ◌+◌, ◌<◌, ◌≤◌, ◌||◌, Bool, true, false, ℕ, zero, suc, nat_le, List, [], ◌∷◌, ◌++◌, length, All, Option, None, Some, IfSome, IsSomeAnd, arith, subst}
 use Rattle.std.proofs.lemmas.Bool.Decides.{nat_tests}
 use Rattle.std.proofs.lemmas.List.{length-append}
 use Rattle.std.proofs.lemmas.List.Elements.{All-push, All-weaker}
@@ -22,7 +22,7 @@ use Rattle.smol_reactions.specs.ReactionSaid.{ReactionSaid}
 use Rattle.smol_reactions.specs.Sound.{AreReactions}
 use Rattle.smol_reactions.proofs.SoundSaid.{dims_keep, species_keep}
 use Rattle.smol_config.specs.declared.motion.Motion.{Motion}
-use Rattle.smol_config.specs.Said.{Said, TimeSaid, passed_over, axes, names, moves, of_times, limits, seeds, walls, places, of_reactions, of_blocks, writes, performs}
+use Rattle.smol_config.specs.Said.{Said, TimeSaid, passed_over, axes, names, moves, of_times, limits, seeds, orders, walls, places, of_reactions, of_blocks, writes, performs}
 use Rattle.smol_config.specs.Axes.{axes_of, bounds_of, dims_of}
 use Rattle.smol_config.specs.Species.{species_of}
 use Rattle.smol_config.specs.Boundaries.{bounds_at}
@@ -108,6 +108,10 @@ limits_kept before count least most h other = h other
 pub seeds_kept : (before : List Said) (seed : ℕ) → IsSoFar before → IsSoFar (seeds seed ∷ before)
 seeds_kept before seed h the_axes = h the_axes
 seeds_kept before seed h other = h other
+
+pub orders_kept : (before : List Said) (nearest : Bool) → IsSoFar before → IsSoFar (orders nearest ∷ before)
+orders_kept before nearest h the_axes = h the_axes
+orders_kept before nearest h other = h other
 
 pub of_reactions_kept : (before : List Said) (said : ReactionSaid) → AreReactions (dims_of before) (length (species_of before)) (said ∷ reactions_said before) → IsSoFar before → IsSoFar (of_reactions said ∷ before)
 of_reactions_kept before said sound h the_reactions = sound

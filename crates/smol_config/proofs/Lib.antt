@@ -4,6 +4,7 @@ pub mod Drafts
 pub mod Kept
 pub mod Rules
 pub mod WholeSound
+pub mod RatedWhole
 pub mod Reading
 pub mod BlockLines
 pub mod BlockTables

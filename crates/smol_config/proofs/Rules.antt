@@ -39,7 +39,7 @@ use Rattle.smol_cmd.proofs.Sound.{commands_are_few, commands_are_sound}
 use Rattle.smol_reactions.proofs.SoundSaid.{binding_radius_keeps, product_placement_keeps, reaction_keeps, reaction_probability_keeps}
 use Rattle.smol_blocks.specs.declared.statement.Statement.{Statement}
 use Rattle.smol_blocks.specs.declared.statement.Statement.TheVariants as statement
-use Rattle.smol_config.specs.Said.{Said, passed_over, axes, names, moves, starts, stops, steps, of_times, limits, seeds, walls, places, of_reactions, of_blocks, writes, performs}
+use Rattle.smol_config.specs.Said.{Said, passed_over, axes, names, moves, starts, stops, steps, of_times, limits, seeds, orders, walls, places, of_reactions, of_blocks, writes, performs}
 use Rattle.smol_blocks.specs.Statement.{may_stand, statement_of}
 use Rattle.smol_config.specs.Axes.{axes_of, dims_of}
 use Rattle.smol_config.specs.Once.{stands_once}
@@ -55,7 +55,7 @@ use Rattle.smol_config.specs.CompartmentMol.{compartment_mol_in}
 use Rattle.smol_config.specs.Commands.{commands_of, known_before, outputs_of}
 use Rattle.smol_config.specs.Reader.{statement_in, line_in}
 use Rattle.smol_config.specs.SoFar.{IsSoFar, the_axes, the_blocks, the_reactions, the_times}
-use Rattle.smol_config.proofs.Kept.{passed_over_kept, axes_kept, names_kept, moves_kept, times_kept, limits_kept, seeds_kept, walls_kept, places_kept, of_reactions_kept, of_blocks_kept, writes_kept, performs_kept}
+use Rattle.smol_config.proofs.Kept.{passed_over_kept, axes_kept, names_kept, moves_kept, times_kept, limits_kept, seeds_kept, orders_kept, walls_kept, places_kept, of_reactions_kept, of_blocks_kept, writes_kept, performs_kept}
 
 -- a value that stands once wasn't given before, and is what its word means
 first_of_once : {T : Type 0} (given : Option T) (meaning : List ℕ → Result T Kind) (line : Stated) (value : T) → stands_once given meaning line ≡ Ok value → (given ≡ None) × (meaning (word_at line 1) ≡ Ok value)
@@ -310,6 +310,7 @@ statement_keeps statement.TimeStep before line said place is h =
     by_value (λ time. of_times (steps time)) _ before said is (λ time is. times_kept before (steps time) (record { start = (h the_times).start; stop = (h the_times).stop; step = step_fits (time_step_of before) line time is }) h)
 statement_keeps statement.MaxMol before line said place is h = by_value limits _ before said is (λ count is. max_mol_keeps before line count is h)
 statement_keeps statement.RandomSeed before line said place is h = by_value seeds _ before said is (λ seed is. seeds_kept before seed h)
+statement_keeps statement.PairOrder before line said place is h = by_value orders _ before said is (λ nearest is. orders_kept before nearest h)
 statement_keeps statement.Boundaries before line said place is h = by_value (λ given. walls given.0 given.1) _ before said is (λ given is. boundaries_keep before line given is h)
 statement_keeps statement.Mol before line said place is h = by_value places _ before said is (λ one is. mol_keeps before line one is h)
 statement_keeps statement.CompartmentMol before line said place is h = by_value places _ before said is (λ one is. compartment_mol_keeps before line one is place h)

@@ -1,5 +1,5 @@
 -- What an accepted text says is sound.
-use Rattle.std.proofs.Common.{◌≡◌, ◌+◌, ◌*◌, ◌<◌, ◌≤◌, ◌%◌, ◌||◌, Bool, true, false, ℕ, suc, ℤ, pos, ◌<ℤ◌, ◌*ℤ◌, nat_le, List, [], ◌∷◌, length, All, Option, None, Some, Result, Ok, Err, IfSome, sum_by, unsigned_abs, arith, refl, sym, ap, subst, if◌then◌else◌, nat_lt}
+use Rattle.std.proofs.Common.{◌≡◌, ◌+◌, ◌*◌, ◌<◌, ◌≤◌, ◌%◌, ◌||◌, Bool, true, false, ℕ, suc, ℤ, pos, ◌<ℤ◌, ◌*ℤ◌, nat_le, List, [], ◌∷◌, length, All, Option, None, Some, Result, Ok, Err, IfSome, sum_by, unsigned_abs, arith, refl, sym, ap, ◌∙◌, subst, if◌then◌else◌, nat_lt}
 use Rattle.std.specs.List.{list_all}
 use Rattle.std.proofs.lemmas.Bool.Decides.{nat_tests}
 use Rattle.std.proofs.lemmas.Int.{ints}
@@ -26,7 +26,8 @@ use Rattle.smol_line.proofs.Passing.{passed, valued, holds, is_there}
 use Rattle.smol_blocks.specs.Blocks.{Block, no_block, in_surface, in_compartment, BlockSaid, block_of, compartments_of, opening_line, surfaces_of}
 use Rattle.smol_blocks.specs.BlocksSound.{AreBlocks, AreBlocksOf, IsBlock}
 use Rattle.smol_reactions.specs.Content.{chances_of, reaction_made, reactions_of, schemes_of}
-use Rattle.smol_reactions.proofs.Chances.{shared_at, shares_fit}
+use Rattle.smol_reactions.specs.Rates.{all_rated, reaction_rated}
+use Rattle.smol_reactions.proofs.Rated.{all_rated_sound, enough_at}
 use Rattle.smol_reactions.proofs.Lists.{length-numbered}
 use Rattle.smol_reactions.proofs.SoundSaid.{nothing_sound}
 use Rattle.smol_config.specs.declared.whole.Needed.{Needed}
@@ -40,7 +41,7 @@ use Rattle.smol_config.specs.Reactions.{reactions_said}
 use Rattle.smol_config.specs.Blocks.{blocks_said, compartment_count}
 use Rattle.smol_config.specs.Commands.{commands_of, outputs_of}
 use Rattle.smol_config.specs.Content.{content_of, species_from, started}
-use Rattle.smol_config.specs.Whole.{bounded, has_chances, has_difstep, has_few_steps, has_room, needed_from, needed_in, behind_blocks, closed_in, whole_in}
+use Rattle.smol_config.specs.Whole.{bounded, has_chances, has_difstep, has_few_steps, has_room, has_words, needed_from, needed_in, behind_blocks, closed_in, whole_in}
 use Rattle.smol_config.specs.Reader.{config_from, config_of, line_in, lines_in, read_from}
 use Rattle.smol_config.specs.SoFar.{IsSoFar, the_axes, the_species, the_times, the_limit, the_order, the_placings, the_reactions, the_blocks, the_outputs, the_command_count, the_commands}
 use Rattle.smol_config.specs.Tables.{AreSmall}
@@ -82,20 +83,22 @@ needed_is before needed is =
     )
 
 -- nothing in what is accepted is too much
-bounded_is : (chances : List (Option ℕ)) (draft found : Draft) → bounded chances draft ≡ Ok found → (draft ≡ found) × (has_few_steps draft ≡ true) × (list_all has_difstep draft.species ≡ true) × (has_room draft ≡ true) × (has_chances chances draft ≡ true)
+bounded_is : (chances : List (Option ℕ)) (draft found : Draft) → bounded chances draft ≡ Ok found → (draft ≡ found) × (has_few_steps draft ≡ true) × (list_all has_difstep draft.species ≡ true) × (has_room draft ≡ true) × (has_words draft ≡ true)
 unfolding bounded
 bounded_is chances draft found is =
     let few = unless (has_few_steps draft) kind.TooMany in
     let near = unless (list_all has_difstep draft.species) kind.OutOfRange in
     let shared = unless (has_chances chances draft) kind.ProbabilitySum in
+    let words = unless (has_words draft) kind.ProbabilitySum in
     let room = unless (has_room draft) kind.TooMany in
     let all : Result Draft Kind = Ok draft in
-    let a = passed few (near ∷ shared ∷ room ∷ []) all found is in
-    let b = passed near (shared ∷ room ∷ []) all found a.1 in
-    let e = passed shared (room ∷ []) all found b.1 in
-    let c = passed room [] all found e.1 in
+    let a = passed few (near ∷ shared ∷ words ∷ room ∷ []) all found is in
+    let b = passed near (shared ∷ words ∷ room ∷ []) all found a.1 in
+    let e = passed shared (words ∷ room ∷ []) all found b.1 in
+    let f = passed words (room ∷ []) all found e.1 in
+    let c = passed room [] all found f.1 in
     let same : draft ≡ found = cc in
-    (same, holds (has_few_steps draft) kind.TooMany a.0, holds (list_all has_difstep draft.species) kind.OutOfRange b.0, holds (has_room draft) kind.TooMany c.0, holds (has_chances chances draft) kind.ProbabilitySum e.0)
+    (same, holds (has_few_steps draft) kind.TooMany a.0, holds (list_all has_difstep draft.species) kind.OutOfRange b.0, holds (has_room draft) kind.TooMany c.0, holds (has_words draft) kind.ProbabilitySum f.0)
 
 doubled_even : (x : ℤ) → unsigned_abs (pos 2 *ℤ x) % 2 ≡ 0
 doubled_even x = omega (arith, ints)
@@ -170,9 +173,9 @@ blocks_fit dims said sound = by (block_of said) sound.block
     by (in_compartment opened lines) is = let surfaces = sound.surface_count in let compartments = sound.compartment_count in let a = is.0 in let b = is.1 in (omega arith, omega arith, sound)
 
 -- what lines without a fault say together is sound
-content_is_sound : (before : List Said) (needed : Needed) → IsSoFar before → needed_in before ≡ Ok needed → has_few_steps (content_of needed before) ≡ true → list_all has_difstep (content_of needed before).species ≡ true → has_room (content_of needed before) ≡ true → has_chances (chances_of (reactions_said before)) (content_of needed before) ≡ true → IsSound (content_of needed before)
+content_is_sound : (before : List Said) (needed : Needed) → IsSoFar before → needed_in before ≡ Ok needed → has_few_steps (content_of needed before) ≡ true → list_all has_difstep (content_of needed before).species ≡ true → has_room (content_of needed before) ≡ true → has_words (content_of needed before) ≡ true → IsSound (content_of needed before)
 unfolding content_of walls_of
-content_is_sound before needed h is few near room shared =
+content_is_sound before needed h is few near room words =
     let given = needed_is before needed is in
     let axes = rw given.0 at (h the_axes).dims in
     let stop = rw given.4 at (h the_times).stop in
@@ -186,7 +189,7 @@ content_is_sound before needed h is few near room shared =
     let around = walls_of (axes_of before) in
     let Placed : ℕ → Type 0 = λ species. All (IsPlacing species (compartment_count before) around) (placings_of before) in
     let Commanded : ℕ → Type 0 = λ species. All (IsCommand species (compartment_count before) (length (outputs_of before)) around) (commands_of before) in
-    let Reacting : ℕ → Type 0 = λ species. All (IsReaction needed.dims species) (reactions_of (reactions_said before)) in
+    let Reacting : ℕ → Type 0 = λ species. All (IsReaction needed.dims species) (all_rated (unsigned_abs needed.step) (reactions_of (reactions_said before))) in
     let blocks = blocks_fit needed.dims (blocks_said before) (rw given.0 at (h the_blocks)) in
     let few_species = (h the_species) in record {
       dims_above = axes.0;
@@ -200,9 +203,9 @@ content_is_sound before needed h is few near room shared =
       panels = blocks.2.panels;
       compartment_count = blocks.1;
       compartments = blocks.2.compartments;
-      reaction_count = subst (λ (n : ℕ). n ≤ 1024) (sym (length-numbered (reaction_made (reactions_said before)) 0 (schemes_of (reactions_said before)))) (h the_reactions).count;
-      reactions = subst Reacting (sym count) ((h the_reactions).all needed.dims (subst (λ (dims : Option ℕ). IfSome dims (λ (given : ℕ). given ≡ needed.dims)) (sym given.0) refl));
-      shares = λ species within. shares_fit species (reactions_said before) (shared_at (length (content_of needed before).species) species (reactions_of (reactions_said before)) (chances_of (reactions_said before)) shared within);
+      reaction_count = subst (λ (n : ℕ). n ≤ 1024) (sym (length-numbered (reaction_rated (unsigned_abs needed.step) (reactions_of (reactions_said before))) 0 (reactions_of (reactions_said before)) ∙ length-numbered (reaction_made (reactions_said before)) 0 (schemes_of (reactions_said before)))) (h the_reactions).count;
+      reactions = subst Reacting (sym count) (all_rated_sound needed.dims (length (species_of before)) (unsigned_abs needed.step) (reactions_of (reactions_said before)) ((h the_reactions).all needed.dims (subst (λ (dims : Option ℕ). IfSome dims (λ (given : ℕ). given ≡ needed.dims)) (sym given.0) refl)));
+      shares = λ species within. enough_at (length (content_of needed before).species) species (content_of needed before).reactions words within;
       placings = subst Placed (sym count) (h the_placings);
       command_count = (h the_command_count);
       commands = subst Commanded (sym count) (h the_commands);

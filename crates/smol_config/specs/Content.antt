@@ -1,10 +1,11 @@
 -- What the lines of a configuration say together, a quantity each.
-use Rattle.std.specs.Prelude.{ℕ, ◌+◌, ℤ, pos, List, [], ◌∷◌, Option, unwrap_or}
+use Rattle.std.specs.Prelude.{ℕ, ◌+◌, ℤ, pos, List, [], ◌∷◌, Option, unwrap_or, unsigned_abs}
 use Rattle.smol_types.specs.declared.draft.Draft.{Draft}
 use Rattle.smol_types.specs.declared.species.Species.{Species as TheSpecies}
 use Rattle.smol_line.specs.Axes.{walls_of}
 use Rattle.smol_blocks.specs.Blocks.{compartments_of, panels_of, surfaces_of}
 use Rattle.smol_reactions.specs.Content.{reactions_of}
+use Rattle.smol_reactions.specs.Rates.{all_rated}
 use Rattle.smol_config.specs.declared.whole.Needed.{Needed}
 use Rattle.smol_config.specs.Said.{Said}
 use Rattle.smol_config.specs.Axes.{axes_of}
@@ -13,6 +14,7 @@ use Rattle.smol_config.specs.Motion.{motion_of, difstep_of}
 use Rattle.smol_config.specs.Times.{time_start_of}
 use Rattle.smol_config.specs.MaxMol.{max_mol_of, limit_of}
 use Rattle.smol_config.specs.RandomSeed.{random_seed_of}
+use Rattle.smol_config.specs.PairOrder.{nearest_by, pair_order_of}
 use Rattle.smol_config.specs.Mol.{placings_of}
 use Rattle.smol_config.specs.Reactions.{reactions_said}
 use Rattle.smol_config.specs.Blocks.{blocks_said}
@@ -37,7 +39,7 @@ content_of needed before = record {
   surfaces = surfaces_of (blocks_said before);
   panels = panels_of (blocks_said before);
   compartments = compartments_of (blocks_said before);
-  reactions = reactions_of (reactions_said before);
+  reactions = all_rated (unsigned_abs needed.step) (reactions_of (reactions_said before));
   placings = placings_of before;
   commands = commands_of before;
   outputs = outputs_of before;
@@ -46,4 +48,5 @@ content_of needed before = record {
   step = needed.step;
   max_mol = limit_of (max_mol_of before);
   seed = random_seed_of before;
+  nearest = nearest_by (pair_order_of before);
 }

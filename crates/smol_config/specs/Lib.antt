@@ -7,6 +7,7 @@ pub mod Motion
 pub mod Times
 pub mod MaxMol
 pub mod RandomSeed
+pub mod PairOrder
 pub mod Boundaries
 pub mod Mol
 pub mod Reactions

@@ -1,5 +1,5 @@
 -- What the lines before say of plain matters, a look-up each.
-use Rattle.std.specs.Prelude.{ℕ, List, Option}
+use Rattle.std.specs.Prelude.{ℕ, Bool, List, Option}
 use Rattle.smol_types.specs.declared.command.Command.{Command}
 use Rattle.smol_types.specs.declared.placing.Placing.{Placing}
 use Rattle.smol_line.specs.declared.axes.Axes.{Axes}
@@ -12,6 +12,7 @@ use Rattle.smol_config.specs.Motion.{motion_of}
 use Rattle.smol_config.specs.Times.{times_of}
 use Rattle.smol_config.specs.MaxMol.{max_mol_of}
 use Rattle.smol_config.specs.RandomSeed.{random_seed_of}
+use Rattle.smol_config.specs.PairOrder.{pair_order_of}
 use Rattle.smol_config.specs.Mol.{placings_of}
 use Rattle.smol_config.specs.Commands.{commands_of, outputs_of}
 
@@ -23,6 +24,7 @@ pub record Looked : Type 0 where
   pub times : Times
   pub max_mol : Option ℕ
   pub seed : Option ℕ
+  pub nearest : Option Bool
   pub placings : List Placing
   pub outputs : List (List ℕ)
   pub commands : List Command
@@ -36,6 +38,7 @@ looked_up before = record {
   times = times_of before;
   max_mol = max_mol_of before;
   seed = random_seed_of before;
+  nearest = pair_order_of before;
   placings = placings_of before;
   outputs = outputs_of before;
   commands = commands_of before;

@@ -13,9 +13,9 @@ use Rattle.smol_cmd.specs.Cmd.{cmd_in}
 use Rattle.smol_cmd.specs.OutputFiles.{output_files_in}
 use Rattle.smol_reactions.specs.Statements.{binding_radius_said, product_placement_said, reaction_probability_said, reaction_said}
 use Rattle.smol_blocks.specs.declared.statement.Statement.{Statement}
-use Rattle.smol_blocks.specs.declared.statement.Statement.TheVariants.{PassedOver, NotInProfile, Unknown, Dim, Species, Difc, Difstep, TimeStart, TimeStop, TimeStep, MaxMol, RandomSeed, Boundaries, Mol, CompartmentMol, Reaction, BindingRadius, ReactionProbability, ProductPlacement, Block, OutputFiles, Cmd}
+use Rattle.smol_blocks.specs.declared.statement.Statement.TheVariants.{PassedOver, NotInProfile, Unknown, Dim, Species, Difc, Difstep, TimeStart, TimeStop, TimeStep, MaxMol, RandomSeed, PairOrder, Boundaries, Mol, CompartmentMol, Reaction, BindingRadius, ReactionProbability, ProductPlacement, Block, OutputFiles, Cmd}
 use Rattle.smol_blocks.specs.Statement.{may_stand, statement_of}
-use Rattle.smol_config.specs.Said.{Said, passed_over, axes, names, moves, starts, stops, steps, of_times, limits, seeds, walls, places, of_reactions, of_blocks, writes, performs}
+use Rattle.smol_config.specs.Said.{Said, passed_over, axes, names, moves, starts, stops, steps, of_times, limits, seeds, orders, walls, places, of_reactions, of_blocks, writes, performs}
 use Rattle.smol_config.specs.Axes.{axes_of, dims_of}
 use Rattle.smol_config.specs.Dim.{dim_in}
 use Rattle.smol_config.specs.Species.{species_in, species_of}
@@ -23,6 +23,7 @@ use Rattle.smol_config.specs.Motion.{difc_in, difstep_in}
 use Rattle.smol_config.specs.Times.{time_start_of, time_stop_of, time_step_of, given_time_in, time_step_in}
 use Rattle.smol_config.specs.MaxMol.{max_mol_in, max_mol_of}
 use Rattle.smol_config.specs.RandomSeed.{random_seed_in, random_seed_of}
+use Rattle.smol_config.specs.PairOrder.{pair_order_in, pair_order_of}
 use Rattle.smol_config.specs.Boundaries.{boundaries_in}
 use Rattle.smol_config.specs.Mol.{mol_in}
 use Rattle.smol_config.specs.Reactions.{reactions_said}
@@ -45,6 +46,7 @@ statement_in TimeStop before line = say (λ time. of_times (stops time)) (given_
 statement_in TimeStep before line = say (λ time. of_times (steps time)) (time_step_in (time_step_of before) line)
 statement_in MaxMol before line = say limits (max_mol_in (max_mol_of before) line)
 statement_in RandomSeed before line = say seeds (random_seed_in (random_seed_of before) line)
+statement_in PairOrder before line = say orders (pair_order_in (pair_order_of before) line)
 statement_in Boundaries before line = say (λ given. walls given.0 given.1) (boundaries_in (axes_of before) line)
 statement_in Mol before line = say places (mol_in (axes_of before) (species_of before) line)
 statement_in CompartmentMol before line =

@@ -1,5 +1,5 @@
 -- What a line says, and looking back over what the lines before it say. These stand nearest first.
-use Rattle.std.specs.Prelude.{ℕ, ℤ, List, [], ◌∷◌, ◌++◌, Option, None, Some}
+use Rattle.std.specs.Prelude.{ℕ, ℤ, Bool, List, [], ◌∷◌, ◌++◌, Option, None, Some}
 use Rattle.smol_types.specs.declared.placing.Placing.{Placing}
 use Rattle.smol_types.specs.declared.command.Command.{Command}
 use Rattle.smol_line.specs.declared.axes.Bounds.{Bounds}
@@ -29,6 +29,8 @@ pub data Said : Type 0 where
   limits : ℕ → Said
   -- this is the seed of the random words
   seeds : ℕ → Said
+  -- whether the nearest pairs come first
+  orders : Bool → Said
   -- the axis has these walls
   walls : ℕ → Bounds → Said
   -- these molecules are placed

@@ -20,6 +20,7 @@ use Rattle.smol_blocks.specs.declared.blocks.Blocks.{Blocks}
 use Rattle.smol_blocks.specs.Blocks.{BlockSaid}
 use Rattle.smol_blocks.specs.BlocksTable.{Holds as HoldsBlocks, IsKept as AreBlocksKept}
 use Rattle.smol_reactions.specs.declared.reactions.Reactions.{Reactions}
+use Rattle.smol_reactions.specs.Rates.{all_rated}
 use Rattle.smol_reactions.specs.ReactionSaid.{ReactionSaid}
 use Rattle.smol_reactions.specs.Table.{Holds as HoldsReactions, IsKept}
 use Rattle.smol_config.specs.declared.motion.Motion.{Motion}
@@ -29,6 +30,7 @@ use Rattle.smol_config.specs.declared.whole.Parts.{Parts}
 use Rattle.smol_config.specs.Said.{Said}
 use Rattle.smol_config.specs.Motion.{still, difstep_of}
 use Rattle.smol_config.specs.MaxMol.{limit_of}
+use Rattle.smol_config.specs.PairOrder.{nearest_by}
 use Rattle.smol_config.specs.Reactions.{reactions_said}
 use Rattle.smol_config.specs.Blocks.{blocks_said}
 use Rattle.smol_config.specs.Looked.{Looked, looked_up}
@@ -45,6 +47,7 @@ seen tables = record {
   times = tables.times;
   max_mol = tables.max_mol;
   seed = tables.seed;
+  nearest = tables.nearest;
   placings = tables.placings;
   outputs = tables.outputs;
   commands = tables.commands;
@@ -123,7 +126,7 @@ drafted needed parts tables = record {
   surfaces = tables.blocks.surfaces;
   panels = tables.blocks.panels;
   compartments = tables.blocks.compartments;
-  reactions = tables.reactions.list.items;
+  reactions = all_rated (unsigned_abs needed.step) tables.reactions.list.items;
   placings = tables.placings;
   commands = tables.commands;
   outputs = parts.outputs;
@@ -132,4 +135,5 @@ drafted needed parts tables = record {
   step = needed.step;
   max_mol = limit_of tables.max_mol;
   seed = tables.seed;
+  nearest = nearest_by tables.nearest;
 }

@@ -15,6 +15,7 @@ use Rattle.smol_line.specs.Fault.{Fault, fault_at, at_line}
 use Rattle.smol_line.specs.Checks.{unless, passing, with_value, there}
 use Rattle.smol_blocks.specs.Blocks.{block_of, opening_line}
 use Rattle.smol_reactions.specs.Content.{are_shared, chances_of}
+use Rattle.smol_reactions.specs.Rates.{are_enough}
 use Rattle.smol_config.specs.declared.times.Times.{Times}
 use Rattle.smol_config.specs.declared.whole.Needed.{Needed}
 use Rattle.smol_config.specs.Said.{Said}
@@ -53,6 +54,10 @@ has_difstep species = nat_le species.step longest
 abbrev pub has_chances : List (Option ℕ) → Draft → Bool
 has_chances chances draft = are_shared (length draft.species) draft.reactions chances
 
+-- the random words are enough for the first-order reactions of each species
+abbrev pub has_words : Draft → Bool
+has_words draft = are_enough (length draft.species) draft.reactions
+
 -- no more molecules are placed than there may be
 abbrev pub has_room : Draft → Bool
 has_room draft = nat_le (sum_by placed_by draft.placings) draft.max_mol
@@ -64,6 +69,7 @@ bounded chances draft =
     (unless (has_few_steps draft) TooMany
     ∷ unless (list_all has_difstep draft.species) OutOfRange
     ∷ unless (has_chances chances draft) ProbabilitySum
+    ∷ unless (has_words draft) ProbabilitySum
     ∷ unless (has_room draft) TooMany
     ∷ [])
     (Ok draft)

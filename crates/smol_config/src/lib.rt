@@ -8,6 +8,7 @@ mod law;
 mod max_mol;
 mod mol;
 mod motion;
+mod pair_order;
 mod random_seed;
 mod reader;
 mod species;
@@ -18,5 +19,5 @@ mod tests;
 mod times;
 mod whole;
 
-pub use law::accepted_texts_are_sound;
+pub use law::{accepted_texts_are_sound, rates_never_exceed_1};
 pub use reader::read_config;

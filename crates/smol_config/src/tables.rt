@@ -11,7 +11,9 @@ ghost use Rattle.smol_config.specs.Tables.{Keeps};
 
 use crate::species_table::SpeciesTable;
 use crate::times::Times;
-use crate::{boundaries, compartment_mol, dim, max_mol, mol, motion, random_seed, species, times};
+use crate::{
+    boundaries, compartment_mol, dim, max_mol, mol, motion, pair_order, random_seed, species, times,
+};
 use smol_blocks::{BlockStatement, Blocks, Statement, told_at};
 use smol_cmd::{read_cmd, read_output_files};
 use smol_line::{Axes, NameSet, Refusal, word_at};
@@ -36,6 +38,7 @@ pub struct Tables {
     pub times: Times,
     pub max_mol: Option<u32>,
     pub seed: Option<u64>,
+    pub nearest: Option<bool>,
     pub placings: Items<Placing>,
     pub reactions: Reactions,
     pub blocks: Blocks,
@@ -67,6 +70,7 @@ impl Tables {
             },
             max_mol: None,
             seed: None,
+            nearest: None,
             placings: Items::new(alloc),
             reactions: Reactions::new(alloc),
             blocks: Blocks::new(alloc),
@@ -256,6 +260,7 @@ impl Tables {
             Statement::TimeStep => keep(times::judge_step(given.step, line), &mut self.times.step),
             Statement::MaxMol => keep(max_mol::judge(self.max_mol, line), &mut self.max_mol),
             Statement::RandomSeed => keep(random_seed::judge(self.seed, line), &mut self.seed),
+            Statement::PairOrder => keep(pair_order::judge(self.nearest, line), &mut self.nearest),
             Statement::Boundaries => self.read_boundaries(line),
             Statement::Mol => self.read_mol(line),
             Statement::CompartmentMol => self.read_compartment_mol(line),

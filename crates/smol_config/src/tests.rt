@@ -7,7 +7,7 @@ use std::test::Fail;
 #[test]
 fn a_configuration_says_what_its_lines_say(rt: HostRuntime) -> Result<(), Fail> {
     let text =
-        b"dim 2\nspecies A B\nboundaries x -10 100 r\nboundaries 1 0 50\nspecies C_1\ncmd a molcount stdout\ncmd b listmols stdout\ntime_stop 0.5\ntime_step 1e-6\nrandom_seed 0";
+        b"dim 2\nspecies A B\nboundaries x -10 100 r\nboundaries 1 0 50\nspecies C_1\ncmd a molcount stdout\ncmd b listmols stdout\ntime_stop 0.5\ntime_step 1e-6\nrandom_seed 0\npair_order nearest";
     let config = read_config(rt.alloc(), text)?;
     assert_eq!(rt; config.dims(), 2);
     assert_eq!(rt; config.start(), 0);
@@ -15,6 +15,7 @@ fn a_configuration_says_what_its_lines_say(rt: HostRuntime) -> Result<(), Fail> 
     assert_eq!(rt; config.step(), 1_000);
     assert_eq!(rt; config.max_mol(), 100_000);
     assert_eq!(rt; config.seed(), Some(0));
+    assert!(rt; config.nearest());
     let species = config.species();
     assert_eq!(rt; species.len(), 3);
     assert_eq!(rt; species[0].name.as_str(), "A");

@@ -23,6 +23,7 @@ use crate::tables::Tables;
 use crate::times::Times;
 use smol_blocks::Blocks;
 use smol_line::{Axes, Bounds, NameSet, Refusal, is_walled, unless};
+use smol_reactions::are_enough;
 use smol_types::{
     Compartment, Config, Draft, Items, Kind, Name, Need, Panel, Placing, Species, Surface, Wall,
     last_step,
@@ -234,11 +235,13 @@ fn parts_of(alloc: Global, needed: Needed, tables: &Tables) -> Result<Parts, Ref
 fn drafted(needed: Needed, parts: Parts, tables: Tables) -> Draft
     requires stop { unsigned_abs needed.stop ≤ latest }
     requires step { unsigned_abs needed.step ≤ latest }
+    requires step_above { pos 0 <ℤ needed.step }
     requires start { unsigned_abs parts.start ≤ latest }
+    requires kept { IsKept tables.reactions }
     ensures { result ≡ drafted needed parts tables }
 {
     let (surfaces, panels, compartments) = block_lists(tables.blocks);
-    let reactions = tables.reactions.into_list();
+    let reactions = tables.reactions.into_list(needed.step);
     Draft {
         dims: needed.dims,
         species: parts.species,
@@ -255,6 +258,7 @@ fn drafted(needed: Needed, parts: Parts, tables: Tables) -> Draft
         step: needed.step,
         max_mol: tables.max_mol.unwrap_or(DEFAULT_MAX_MOL),
         seed: tables.seed,
+        nearest: tables.nearest.unwrap_or(false),
     }
 }
 
@@ -280,13 +284,18 @@ fn draft_of(alloc: Global, needed: Needed, tables: Tables) -> Result<Draft, Refu
     Ok(drafted(needed, parts, tables))
 }
 
-// What the lines make together, unless too many molecules are placed.
+// What the lines make together, unless the random words aren't enough for its reactions or too many molecules are placed.
 #[tactic(auto, unfolding(crate::specs::Whole::bounded))]
 fn bounded(draft: Draft) -> Result<Draft, Kind>
+    requires species { length draft.species ≤ most_species }
     requires few { has_few_steps draft ≡ true }
     requires near { list_all has_difstep draft.species ≡ true }
     ensures { (chances : List (Option ℕ)) → has_chances chances draft ≡ true → result ≡ bounded chances draft }
 {
+    unless(
+        are_enough(draft.species.len() as u16, draft.reactions.as_slice()),
+        Kind::ProbabilitySum,
+    )?;
     unless(
         are_few(draft.placings.as_slice(), draft.max_mol),
         Kind::TooMany,

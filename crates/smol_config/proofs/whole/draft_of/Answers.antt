@@ -1,5 +1,7 @@
-use Rattle.std.proofs.Common.{◌∙◌}
+use Rattle.std.proofs.Common.{length, unsigned_abs, ap, ◌∙◌}
 use Rattle.std.proofs.lemmas.Result.{err_from_is_err_and}
+use Rattle.smol_reactions.proofs.Rated.{shared_kept}
+use Rattle.smol_config.specs.Whole.{has_chances}
 use Rattle.smol_config.proofs.Drafts.{drafted_is}
 use Rattle.smol_config.proofs.whole.draft_of.Goals as goal
 
@@ -12,3 +14,10 @@ pub returns-in_err-parts-clause-refused : goal.returns-in_err-parts-clause-refus
 returns-in_err-parts-clause-refused c kind before is holds =
     let p = err_from_is_err_and c.from_residual.result c.from_residual.ensures.1 in
     c.in_err-parts.ensures.refused kind before (cc (p.1, p.2, is)) holds
+
+pub returns-clause-shared : goal.returns-clause-shared
+returns-clause-shared c =
+    let reactions = c.args.tables.reactions in
+    ap (has_chances reactions.chances.items) c.drafted.ensures
+    ∙ shared_kept (length c.in_ok-parts.parts.species) (unsigned_abs c.args.needed.step) reactions.list.items reactions.chances.items
+    ∙ c.in_ok-parts.ensures.shared

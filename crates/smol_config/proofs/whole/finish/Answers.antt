@@ -1,16 +1,18 @@
-use Rattle.std.proofs.Common.{◌≡◌, ◌≤◌, true, List, length, subst, IfSome, unsigned_abs, Ok, Err, sym, ap, ◌∙◌}
+use Rattle.std.proofs.Common.{◌≡◌, ◌≤◌, true, List, length, subst, IfSome, unsigned_abs, Ok, Err, sym, ap, ◌∙◌, arith}
 use Rattle.std.proofs.lemmas.Result.{err_from_is_err_and}
 use Rattle.smol_types.specs.declared.draft.Draft.{Draft}
 use Rattle.smol_types.specs.declared.fault.Kind.{Kind}
 use Rattle.smol_reactions.specs.Content.{chances_of}
 use Rattle.smol_config.specs.Reactions.{reactions_said}
 use Rattle.smol_config.specs.Said.{Said}
+use Rattle.smol_config.specs.Species.{species_of}
+use Rattle.smol_config.specs.Content.{content_of}
 use Rattle.smol_config.specs.Looked.{Looked}
 use Rattle.smol_config.specs.SoFar.{the_axes, the_species, the_times}
 use Rattle.smol_config.specs.Tables.{Holds}
 use Rattle.smol_config.specs.Whole.{bounded, has_chances, closed_in}
 use Rattle.smol_config.proofs.Drafts.{needed_held}
-use Rattle.smol_config.proofs.WholeSound.{needed_is, small_walls, closed_ok, closed_missing, closed_excess, closed_is_sound}
+use Rattle.smol_config.proofs.WholeSound.{needed_is, small_walls, closed_ok, closed_missing, closed_excess, closed_is_sound, length-species_from}
 use Rattle.smol_config.proofs.whole.finish.Goals as goal
 use Rattle.smol_config.proofs.whole.finish.Goals.{In_ok-draft-2}
 
@@ -34,6 +36,15 @@ draft_of-requires c =
       species = subst (λ (known : Looked). length known.species ≤ 256) (sym holds.plain) (h the_species);
       kept = holds.kept;
     }
+
+pub bounded-requires-clause-species : goal.bounded-requires-clause-species
+unfolding content_of
+bounded-requires-clause-species c =
+    let before = c.requires.0 in
+    let content = ap (λ (draft : Draft). length draft.species) (c.in_ok-draft.ensures.content before c.requires.1) in
+    let count = length-species_from c.in_ok-needed.needed.step before 0 (species_of before) in
+    let few = c.requires.2 the_species in
+    omega (arith, content, count, few)
 
 -- the draft is what the whole file says
 whole : (c : In_ok-draft-2) (before : List Said) → Holds c.args.tables before → closed_in before ≡ Ok c.in_ok-draft-2.draft

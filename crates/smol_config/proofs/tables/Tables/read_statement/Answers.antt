@@ -6,8 +6,9 @@ use Rattle.smol_config.specs.Dim.{dim_in}
 use Rattle.smol_config.specs.Looked.{Looked}
 use Rattle.smol_config.specs.MaxMol.{max_mol_in}
 use Rattle.smol_config.specs.RandomSeed.{random_seed_in}
+use Rattle.smol_config.specs.PairOrder.{pair_order_in}
 use Rattle.smol_config.specs.Times.{given_time_in, time_step_in}
-use Rattle.smol_config.specs.Said.{passed_over, axes, starts, stops, steps, of_times, limits, seeds}
+use Rattle.smol_config.specs.Said.{passed_over, axes, starts, stops, steps, of_times, limits, seeds, orders}
 use Rattle.smol_config.specs.Reader.{statement_in}
 use Rattle.smol_config.proofs.Held.{once_read, passed_over_held}
 use Rattle.smol_config.proofs.tables.Tables.read_statement.Goals as goal
@@ -75,3 +76,11 @@ returns-in-RandomSeed c =
     rw c.in-RandomSeed.is
     (once_read statement.RandomSeed c.args.line.now tables (λ seed. record tables { seed = seed }) seeds (λ known. random_seed_in known.seed c.args.line.now) _ _ _ _ (λ before. refl) c.judge-in-RandomSeed.ensures c.keep-in-RandomSeed.ensures
     (λ seed before h. record { plain = ap (λ (old : Looked). let new : Looked = record old { seed = Some seed } in new) h.plain; groups = h.groups }))
+
+pub returns-in-PairOrder : goal.returns-in-PairOrder
+unfolding statement_in
+returns-in-PairOrder c =
+    let tables = c.args.self.now in
+    rw c.in-PairOrder.is
+    (once_read statement.PairOrder c.args.line.now tables (λ nearest. record tables { nearest = nearest }) orders (λ known. pair_order_in known.nearest c.args.line.now) _ _ _ _ (λ before. refl) c.judge-in-PairOrder.ensures c.keep-in-PairOrder.ensures
+    (λ nearest before h. record { plain = ap (λ (old : Looked). let new : Looked = record old { nearest = Some nearest } in new) h.plain; groups = h.groups }))
