@@ -8,7 +8,7 @@ syntax match smolUnknown /^\s*\zs\S\+/
 syntax match smolNumber /\%(^\|\s\)\@<=[+-]\?\%(\d\+\.\?\d*\|\.\d\+\)\%([eE][+-]\?\d\{1,3}\)\?\ze\%(\s\|#\|$\)/
 syntax match smolOperator /\%(^\|\s\)\@<=\%(<\?->\|+\)\ze\%(\s\|#\|$\)/
 syntax region smolString start=/"/ end=/"/ oneline contained
-syntax match smolConstant /\%(\S\s\+\)\@<=\%(front\|back\|both\|reflect\|absorb\|transmit\|jump\|rect\|all\|empty\|stdout\|stderr\|offset\|unbindrad\)\ze\%(\s\|#\|$\)/
+syntax match smolConstant /\%(\S\s\+\)\@<=\%(front\|back\|both\|reflect\|absorb\|transmit\|jump\|rect\|all\|empty\|stdout\|stderr\|serial\|nearest\|offset\|unbindrad\)\ze\%(\s\|#\|$\)/
 syntax match smolStatement /^\s*\zsdim\ze\%(\s\|#\|$\)/
 syntax match smolStatement /^\s*\zsspecies\ze\%(\s\|#\|$\)/
 syntax match smolStatement /^\s*\zsdifc\ze\%(\s\|#\|$\)/
@@ -18,6 +18,7 @@ syntax match smolStatement /^\s*\zstime_stop\ze\%(\s\|#\|$\)/
 syntax match smolStatement /^\s*\zstime_step\ze\%(\s\|#\|$\)/
 syntax match smolStatement /^\s*\zsmax_mol\ze\%(\s\|#\|$\)/
 syntax match smolStatement /^\s*\zsrandom_seed\ze\%(\s\|#\|$\)/
+syntax match smolStatement /^\s*\zspair_order\ze\%(\s\|#\|$\)/
 syntax match smolStatement /^\s*\zsboundaries\ze\%(\s\|#\|$\)/
 syntax match smolStatement /^\s*\zsmol\ze\%(\s\|#\|$\)/
 syntax match smolStatement /^\s*\zscompartment_mol\ze\%(\s\|#\|$\)/
@@ -101,7 +102,7 @@ syntax match smolLeftOut /^\s*\zsset\ze\%(\s\|#\|$\)/
 syntax region smolCmd start=/^\s*cmd\ze\%(\s\|#\|$\)/ end=/$/ oneline transparent keepend contains=smolCmdWord,smolTiming,smolCommand,smolConstant,smolNumber,smolString,smolComment
 syntax match smolCmdWord /^\s*\zscmd\ze\%(\s\|#\|$\)/ contained
 syntax match smolTiming /\%(^\s*cmd\s\+\)\@<=\%(b\|a\|e\|E\|n\|N\|@\|i\|j\)\ze\s/ contained
-syntax keyword smolCommand contained molcountheader molcount molcountincmpt listmols molpos echo killmol killmolprob replacemol pointsource stop ifno ifless ifmore
+syntax keyword smolCommand contained molcountspace molmoments meansqrdist radialcount molcountheader molcount molcountincmpt listmols molpos echo killmol killmolprob replacemol pointsource stop ifno ifless ifmore
 syntax match smolComment /#.*/
 syntax region smolBlockComment start=/^\s*\/\*\%(\s.*\|#.*\)\?$/ end=/^\s*\*\/\%(\s.*\|#.*\)\?$/
 syntax region smolBehindTheEnd matchgroup=smolStatement start=/^\s*\zsend_file\ze\%(\s\|#\|$\)/ end=/\%$/
