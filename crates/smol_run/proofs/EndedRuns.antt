@@ -1,5 +1,5 @@
 -- A fault of a run and the line that tells it come to the outcome of the run, or are cut off on the way.
-use Rattle.std.proofs.Common.{◌≡◌, ℕ, List, [], Result, Ok, Err, IsErrAnd, refl, sym, subst}
+use Rattle.std.proofs.Common.{◌≡◌, ℕ, List, Result, Ok, Err, IsErrAnd, refl, sym, subst}
 use Rattle.smol_edge.specs.Faults.{Rose}
 use Rattle.smol_edge.specs.Outlets.{Appends, AppendsFrontOf, Written}
 use Rattle.smol_edge.proofs.PieceFronts.{AppendsFrontOf-all, AppendsFrontOf-nothing}

@@ -1,5 +1,5 @@
 -- What many runs give is what becomes of them.
-use Rattle.std.proofs.Common.{◌≡◌, ℕ, zero, suc, ◌+◌, List, [], ◌∷◌, All, arith, refl, ap, ◌∙◌, length}
+use Rattle.std.proofs.Common.{◌≡◌, ℕ, suc, ◌+◌, List, [], ◌∷◌, All, refl, ap, ◌∙◌, length}
 use Rattle.std.proofs.lemmas.List.Elements.{All-cons, All-nil}
 use Rattle.smol_types.specs.declared.draft.Draft.{Draft}
 use Rattle.smol_sweep.specs.declared.outcome.Outcome.{Outcome as End}

@@ -1,15 +1,15 @@
--- From what a source told of a file to the outcome of its contents.
-use Rattle.std.proofs.Common.{◌≡◌, ℕ, ◌+◌, ◌<◌, ◌++◌, List, length, Option, None, Some, IfSome, Result, Ok, Err, IsErr, IsErrAnd, refl, ap, ◌∙◌, length-append, arith, true, nat_lt}
-use Rattle.smol_edge.specs.declared.take_fault.TakeFault.{TakeFault}
-use Rattle.smol_edge.specs.declared.take_fault.TakeFault.TheVariants as take
+-- From what a source told of files to their outcome.
+use Rattle.std.proofs.Common.{◌≡◌, ℕ, List, Option, None, Some, IfSome, Result, Ok, Err, IsErr, IsErrAnd, ap, ◌∙◌}
 use Rattle.smol_edge.specs.Faults.{Tells}
-use Rattle.smol_edge.specs.Source.{Reading, Opens, TakesFront}
+use Rattle.smol_edge.specs.Source.{Reading}
 use Rattle.smol_edge.specs.Outlets.{Written}
 use Rattle.smol_edge.proofs.Pieces.{Appends-nothing}
 use Rattle.smol_edge.proofs.Telling.{Tells-same}
-use Rattle.smol_types.specs.declared.fault.Kind.TheVariants as kind
-use Rattle.smol_types.specs.Fault.{kind_text}
-use Rattle.smol_config.specs.Reader.{config_of}
+use Rattle.smol_macro.specs.declared.expand_fault.ExpandFault.{ExpandFault}
+use Rattle.smol_macro.specs.declared.expand_fault.ExpandFault.TheVariants as expand
+use Rattle.smol_macro.specs.declared.expand_fault.MacroKind.{MacroKind}
+use Rattle.smol_macro.specs.Refusal.{Refuses, kind_text}
+use Rattle.smol_macro.specs.Including.{expanded}
 use Rattle.smol_run.specs.declared.refusal.Refusal.{Refusal}
 use Rattle.smol_run.specs.declared.status.Status.{Status}
 use Rattle.smol_run.specs.declared.words.Job.{Job}
@@ -17,48 +17,46 @@ use Rattle.smol_run.specs.declared.loss.Loss.{Loss}
 use Rattle.smol_run.specs.declared.loss.Loss.TheVariants as loss
 use Rattle.smol_run.specs.declared.stop.Stop.{Stop}
 use Rattle.smol_run.specs.Ends.{FitsWords, GoesWith, GoesWithSome, stop_of}
-use Rattle.smol_run.specs.Outcome.{Outcome, misused, outcome_of_file, outcome_of_job, outcome_of_text, refused}
-use Rattle.smol_run.specs.Told.{refusal_of_take}
+use Rattle.smol_run.specs.Outcome.{Outcome, misused, outcome_of_files, outcome_of_job, outcome_of_text, refused}
+use Rattle.smol_run.specs.Told.{refusal_of_files}
 use Rattle.smol_run.proofs.Cuts.{cut_at_once}
 
--- a text that is too long is refused
-pub outcome_of_text-long : (seed runs : Option ℕ) (text : List ℕ) → 4194304 < length text → outcome_of_text seed runs text ≡ refused 0 (kind_text kind.TooLong)
-unfolding config_of
-outcome_of_text-long seed runs text long = let e : nat_lt 4194304 (length text) ≡ true = search arith in rw e refl
+-- what goes with the outcome of an expanded text goes with that of the files
+pub goes_with_text : {E : Type 0} (seed runs : Option ℕ) (name text : List ℕ) (result : Result Status E) (a : Option Reading) (w v : Option Written)
+    → IfSome a (λ reading. expanded reading.contents name ≡ Ok text) → Tells w v (GoesWith (outcome_of_text seed runs text) result)
+    → IfSome a (λ reading. Tells w v (GoesWithSome (outcome_of_files seed runs (expanded reading.contents name)) result))
+goes_with_text seed runs name text result None w v gives goes = tt
+goes_with_text seed runs name text result (Some x) w v gives goes = rw gives goes
 
--- where more than this was taken of the file that was opened, its contents are longer
-pub contents_long : (name : List ℕ) (limit : ℕ) (a b c : Option Reading) → Tells a b (Opens name) → Tells b c (TakesFront (λ n. n ≡ limit + 1)) → IfSome a (λ reading. (bytes : List ℕ) × (reading.contents name ≡ Some bytes) × (limit < length bytes))
-contents_long name limit None b c opened taken = tt
-contents_long name limit (Some x) None c opened taken = absurd opened
-contents_long name limit (Some x) (Some y) None opened taken = absurd taken
-contents_long name limit (Some x) (Some y) (Some z) opened taken =
-    (y.left, opened.left, omega (arith, ap length taken.takes.left, length-append taken.front z.left, taken.length_is))
-
--- what goes with the outcome of the contents goes with that of the file
-pub goes_with_contents : {E : Type 0} (seed runs : Option ℕ) (name bytes : List ℕ) (result : Result Status E) (a : Option Reading) (w v : Option Written)
-    → IfSome a (λ reading. reading.contents name ≡ Some bytes) → Tells w v (GoesWith (outcome_of_text seed runs bytes) result)
-    → IfSome a (λ reading. Tells w v (GoesWithSome (outcome_of_file seed runs (reading.contents name)) result))
-goes_with_contents seed runs name bytes result None w v contents goes = tt
-goes_with_contents seed runs name bytes result (Some x) w v contents goes = rw contents goes
-
--- the same of a file that is too long
-pub goes_with_long : {E : Type 0} (seed runs : Option ℕ) (name : List ℕ) (result : Result Status E) (a : Option Reading) (w v : Option Written)
-    → IfSome a (λ reading. (bytes : List ℕ) × (reading.contents name ≡ Some bytes) × (4194304 < length bytes))
-    → Tells w v (GoesWith (refused 0 (kind_text kind.TooLong)) result)
-    → IfSome a (λ reading. Tells w v (GoesWithSome (outcome_of_file seed runs (reading.contents name)) result))
-goes_with_long seed runs name result None w v long goes = tt
-goes_with_long seed runs name result (Some x) w v long goes =
-    goes_with_contents seed runs name long.0 result (Some x) w v long.1 (rw (outcome_of_text-long seed runs long.0 long.2) goes)
-
--- a file that was opened is there
-pub opened_is_there : (name : List ℕ) (a b : Option Reading) (P : Type 0) → Tells a b (Opens name)
-    → IfSome a (λ reading. reading.contents name ≡ None → P)
-opened_is_there name None b P opened = tt
-opened_is_there name (Some x) None P opened = absurd opened
-opened_is_there name (Some x) (Some y) P opened = λ none. absurd (is_none none opened.left)
+-- the same of files that are refused
+pub goes_with_refusal : {E : Type 0} (seed runs : Option ℕ) (name : List ℕ) (fault : ExpandFault) (refusal : Refusal MacroKind) (result : Result Status E) (a : Option Reading) (w v : Option Written)
+    → Ok refusal ≡ refusal_of_files fault → IfSome a (λ reading. Refuses fault (expanded reading.contents name))
+    → Tells w v (GoesWith (refused refusal.line (kind_text refusal.kind)) result)
+    → IfSome a (λ reading. Tells w v (GoesWithSome (outcome_of_files seed runs (expanded reading.contents name)) result))
+goes_with_refusal seed runs name fault refusal result None w v is refuses goes = tt
+goes_with_refusal seed runs name (expand.At line kind) refusal result (Some x) w v is refuses goes = rw refuses (rw (ap (from_ok refusal) is) at goes)
   where
-    is_none : {T : Type 0} {o : Option T} {x : T} → o ≡ None → o ≡ Some x → ⊥
-    is_none none some = cc
+    from_ok : Refusal MacroKind → Result (Refusal MacroKind) Stop → Refusal MacroKind
+    from_ok other (Ok refusal) = refusal
+    from_ok other (Err why) = other
+goes_with_refusal seed runs name expand.ReadFault refusal result (Some x) w v is refuses goes = absurd (cc)
+goes_with_refusal seed runs name expand.OutOfMemory refusal result (Some x) w v is refuses goes = absurd (cc)
+
+-- where there is an expanded text, each file is there
+pub text_is_there : (seed runs : Option ℕ) (name text : List ℕ) (a : Option Reading) (P : Type 0)
+    → IfSome a (λ reading. expanded reading.contents name ≡ Ok text)
+    → IfSome a (λ reading. outcome_of_files seed runs (expanded reading.contents name) ≡ None → P)
+text_is_there seed runs name text None P gives = tt
+text_is_there seed runs name text (Some x) P gives = rw gives (λ none. absurd (cc))
+
+-- and where a refusal is met, each that was asked for
+pub refusal_is_there : (seed runs : Option ℕ) (name : List ℕ) (fault : ExpandFault) (refusal : Refusal MacroKind) (a : Option Reading) (P : Type 0)
+    → Ok refusal ≡ refusal_of_files fault → IfSome a (λ reading. Refuses fault (expanded reading.contents name))
+    → IfSome a (λ reading. outcome_of_files seed runs (expanded reading.contents name) ≡ None → P)
+refusal_is_there seed runs name fault refusal None P is refuses = tt
+refusal_is_there seed runs name (expand.At line kind) refusal (Some x) P is refuses = rw refuses (λ none. absurd (cc))
+refusal_is_there seed runs name expand.ReadFault refusal (Some x) P is refuses = absurd (cc)
+refusal_is_there seed runs name expand.OutOfMemory refusal (Some x) P is refuses = absurd (cc)
 
 -- words that ask for nothing go with the usage line
 pub misused_goes : {E : Type 0} (job : Option Job) (words : List (List ℕ)) (result : Result Status E) (a : Option Reading) (w v : Option Written)
@@ -91,14 +89,3 @@ pub nothing_yet_by : {E : Type 0} (outcome : Reading → Option Outcome) (result
     → IsErr result → IfSome a (λ reading. Tells w w (GoesWithSome (outcome reading) result))
 nothing_yet_by outcome (Ok status) a w failed = absurd (cc)
 nothing_yet_by outcome (Err why) a w failed = nothing_yet_of outcome why a w
-
--- of what keeps a text from being taken, one that is too long alone is refused
-pub refused_is_long : (fault : TakeFault) (refusal : Refusal) → Ok refusal ≡ refusal_of_take fault
-    → (fault ≡ take.TooLong) × (refusal ≡ record { line = 0; kind = kind.TooLong })
-refused_is_long take.TooLong refusal is = (refl, ap (from_ok refusal) is)
-  where
-    from_ok : Refusal → Result Refusal Stop → Refusal
-    from_ok other (Ok refusal) = refusal
-    from_ok other (Err why) = other
-refused_is_long take.ReadFault refusal is = absurd (cc)
-refused_is_long take.OutOfMemory refusal is = absurd (cc)

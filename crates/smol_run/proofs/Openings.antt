@@ -1,5 +1,5 @@
 -- Output files that are opened one after the other.
-use Rattle.std.proofs.Common.{ℕ, [], ◌∷◌, ◌++◌, refl, sym, ◌∙◌}
+use Rattle.std.proofs.Common.{[], refl, sym}
 use Rattle.std.proofs.lemmas.List.{append-nil}
 use Rattle.smol_edge.specs.Outlets.{Written}
 use Rattle.smol_run.specs.Opening.{OpensAll}

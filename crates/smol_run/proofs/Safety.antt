@@ -1,8 +1,10 @@
 -- Every run goes safely.
-use Rattle.std.proofs.Common.{ℕ, List, [], Option, None, Some, IfSome, get_or}
+use Rattle.std.proofs.Common.{ℕ, List, [], Option, None, Some, IfSome, Result, Ok, Err, get_or}
 use Rattle.std.specs.Prelude.{slice_index_or}
 use Rattle.smol_edge.specs.Source.{Reading}
 use Rattle.smol_config.proofs.WholeSound.{accepted_is_sound}
+use Rattle.smol_macro.specs.Refusal.{Refusal}
+use Rattle.smol_macro.specs.Including.{expanded}
 use Rattle.smol_meaning.specs.Seen.{plates_of}
 use Rattle.smol_meaning.proofs.Courses.{run_confines, run_is_kept}
 use Rattle.smol_meaning.proofs.Crossings.{crosses_none}
@@ -11,7 +13,7 @@ use Rattle.smol_confined.proofs.Linked.{run_is_confined}
 use Rattle.smol_run.specs.declared.words.Job.{Job}
 use Rattle.smol_run.specs.declared.words.Job.TheVariants.{File, Make}
 use Rattle.smol_run.specs.Generated.{generated}
-use Rattle.smol_run.specs.Ways.{FileGoesSafely, JobGoesSafely, TextGoesSafely}
+use Rattle.smol_run.specs.Ways.{FilesGoSafely, JobGoesSafely, TextGoesSafely}
 
 text_safe : (given runs : Option ℕ) (text : List ℕ) → TextGoesSafely given runs text
 text_safe given runs text draft seed run accepted is_seed ran =
@@ -24,13 +26,13 @@ text_safe given runs text draft seed run accepted is_seed ran =
       events = λ box closed. events_of_run_are_confined draft seed run box sound ran closed;
     }
 
-file_safe : (given runs : Option ℕ) (contents : Option (List ℕ)) → FileGoesSafely given runs contents
-file_safe given runs None = tt
-file_safe given runs (Some text) = text_safe given runs text
+files_safe : (given runs : Option ℕ) (outcome : Result (List ℕ) Refusal) → FilesGoSafely given runs outcome
+files_safe given runs (Ok text) = text_safe given runs text
+files_safe given runs (Err refusal) = tt
 
 job_safe : (job : Option Job) (words : List (List ℕ)) (contents : List ℕ → Option (List ℕ)) → JobGoesSafely job words contents
 job_safe None words contents = tt
-job_safe (Some (File index seed workers runs)) words contents = file_safe seed runs (contents (slice_index_or words index []))
+job_safe (Some (File index seed workers runs)) words contents = files_safe seed runs (expanded contents (slice_index_or words index []))
 job_safe (Some (Make n)) words contents = text_safe None None (generated n)
 
 -- whatever the words and the files are

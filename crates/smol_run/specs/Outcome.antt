@@ -6,6 +6,8 @@ use Rattle.smol_types.specs.declared.draft.Draft.{Draft}
 use Rattle.smol_types.specs.Fault.{kind_text}
 use Rattle.smol_line.specs.Fault.{Fault}
 use Rattle.smol_config.specs.Reader.{config_of}
+use Rattle.smol_macro.specs.Refusal.{Refusal, at, no_file, kind_text as macro_text}
+use Rattle.smol_macro.specs.Including.{expanded}
 use Rattle.smol_meaning.specs.Placement.{NoPlace}
 use Rattle.smol_meaning.specs.Stretch.{Ending, GoesOn, Stopped, Over, Stretch}
 use Rattle.smol_meaning.specs.Run.{run_of}
@@ -94,15 +96,17 @@ outcome_of_config seed runs (Err fault) = refused fault.line (kind_text fault.ki
 abbrev pub outcome_of_text : Option ℕ → Option ℕ → List ℕ → Outcome
 outcome_of_text seed runs text = outcome_of_config seed runs (config_of text)
 
--- a file that isn't there has no outcome
-abbrev pub outcome_of_file : Option ℕ → Option ℕ → Option (List ℕ) → Option Outcome
-outcome_of_file seed runs None = None
-outcome_of_file seed runs (Some text) = Some (outcome_of_text seed runs text)
+-- files end as their expanded text does, or are refused at a line of it. Where one that is asked for isn't there, they have no outcome
+abbrev pub outcome_of_files : Option ℕ → Option ℕ → Result (List ℕ) Refusal → Option Outcome
+outcome_of_files seed runs (Ok text) = Some (outcome_of_text seed runs text)
+outcome_of_files seed runs (Err (at line kind)) = Some (refused line (macro_text kind))
+outcome_of_files seed runs (Err no_file) = None
 
--- the text is the contents of the file that is named, or the one that is made, which is run once and without a seed of the words
+-- the text is what the file that is named expands to, or the one that is made, which is run once and without a seed of the words
 abbrev pub outcome_of_job : Option Job → List (List ℕ) → (List ℕ → Option (List ℕ)) → Option Outcome
 outcome_of_job None words contents = Some misused
-outcome_of_job (Some (File index seed workers runs)) words contents = outcome_of_file seed runs (contents (slice_index_or words index []))
+outcome_of_job (Some (File index seed workers runs)) words contents =
+    outcome_of_files seed runs (expanded contents (slice_index_or words index []))
 outcome_of_job (Some (Make n)) words contents = Some (outcome_of_text None None (generated n))
 
 -- what the words of the command line give over these files

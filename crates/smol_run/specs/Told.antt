@@ -1,7 +1,5 @@
 -- How a call that doesn't come to its end is told: by a status and a line of its own, or as cut off.
 use Rattle.std.specs.Prelude.{ℕ, List, Result, Ok, Err}
-use Rattle.smol_edge.specs.declared.take_fault.TakeFault.{TakeFault}
-use Rattle.smol_edge.specs.declared.take_fault.TakeFault.TheVariants as take
 use Rattle.smol_loop.specs.declared.run_fault.RunFault.{RunFault}
 use Rattle.smol_loop.specs.declared.run_fault.RunFault.TheVariants as fault
 use Rattle.smol_run.specs.declared.ended.Ended.{Ended}
@@ -15,7 +13,10 @@ use Rattle.smol_run.specs.declared.stop.Stop.{Stop}
 use Rattle.smol_run.specs.declared.stop.Stop.TheVariants as stop
 use Rattle.smol_types.specs.declared.fault.ConfigFault.{ConfigFault}
 use Rattle.smol_types.specs.declared.fault.ConfigFault.TheVariants as config
-use Rattle.smol_types.specs.declared.fault.Kind.TheVariants as kind
+use Rattle.smol_types.specs.declared.fault.Kind.{Kind}
+use Rattle.smol_macro.specs.declared.expand_fault.ExpandFault.{ExpandFault}
+use Rattle.smol_macro.specs.declared.expand_fault.ExpandFault.TheVariants as expand
+use Rattle.smol_macro.specs.declared.expand_fault.MacroKind.{MacroKind}
 use Rattle.smol_run.specs.Outcome.{no_place_line, over_line}
 
 -- a molecule without a place and too many molecules end a run. A failing write and want of memory cut it off
@@ -36,15 +37,15 @@ line_of_end (NoPlace line serial) = no_place_line line serial
 line_of_end (TooMany step) = over_line step
 
 -- a text whose content is refused is told by its line and its kind. Want of memory cuts the call off
-abbrev pub refusal_of : ConfigFault → Result Refusal Loss
+abbrev pub refusal_of : ConfigFault → Result (Refusal Kind) Loss
 refusal_of (config.At line kind) = Ok (record { line = line; kind = kind })
 refusal_of config.OutOfMemory = Err loss.Memory
 
--- a text that is too long is refused as a whole. A failing read and want of memory stop the call
-abbrev pub refusal_of_take : TakeFault → Result Refusal Stop
-refusal_of_take take.TooLong = Ok (record { line = 0; kind = kind.TooLong })
-refusal_of_take take.ReadFault = Err stop.Input
-refusal_of_take take.OutOfMemory = Err stop.Memory
+-- files that give no text are told so, too. A failing read and want of memory stop the call
+abbrev pub refusal_of_files : ExpandFault → Result (Refusal MacroKind) Stop
+refusal_of_files (expand.At line kind) = Ok (record { line = line; kind = kind })
+refusal_of_files expand.ReadFault = Err stop.Input
+refusal_of_files expand.OutOfMemory = Err stop.Memory
 
 -- the status of an answer: a status is its own, and each thing that stops a call has one
 abbrev pub status_told : Result Status Stop → Status

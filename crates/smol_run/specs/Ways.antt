@@ -1,9 +1,11 @@
 -- Where molecules go in the run that the words ask for.
-use Rattle.std.specs.Prelude.{◌≡◌, ℕ, ◌<◌, Bool, true, List, [], Option, None, Some, Ok, All, slice_index_or}
+use Rattle.std.specs.Prelude.{◌≡◌, ℕ, ◌<◌, Bool, true, List, [], Option, None, Some, Result, Ok, Err, All, slice_index_or}
 use Rattle.smol_geom.specs.declared.cuboid.Cuboid.{Cuboid}
 use Rattle.smol_types.specs.declared.draft.Draft.{Draft}
 use Rattle.smol_types.specs.State.{Fits}
 use Rattle.smol_config.specs.Reader.{config_of}
+use Rattle.smol_macro.specs.Refusal.{Refusal}
+use Rattle.smol_macro.specs.Including.{expanded}
 use Rattle.smol_meaning.specs.Box.{Confines, IsClosed, IsInside}
 use Rattle.smol_meaning.specs.Crossing.{CrossesNone}
 use Rattle.smol_meaning.specs.Motion.{Move}
@@ -40,12 +42,14 @@ TextGoesSafely given runs text =
     (draft : Draft) (seed : ℕ) (run : Stretch) → config_of text ≡ Ok draft → IsSeedOf runs (seed_of given draft) seed
     → run_of draft seed ≡ Ok run → GoesSafely draft seed run
 
-abbrev pub FileGoesSafely : Option ℕ → Option ℕ → Option (List ℕ) → Type 0
-FileGoesSafely given runs None = Unit {0}
-FileGoesSafely given runs (Some text) = TextGoesSafely given runs text
+-- each run of an expanded text, where there is one
+abbrev pub FilesGoSafely : Option ℕ → Option ℕ → Result (List ℕ) Refusal → Type 0
+FilesGoSafely given runs (Ok text) = TextGoesSafely given runs text
+FilesGoSafely given runs (Err refusal) = Unit {0}
 
 -- each run that the words ask for over these files goes safely, where there is one
 abbrev pub JobGoesSafely : Option Job → List (List ℕ) → (List ℕ → Option (List ℕ)) → Type 0
 JobGoesSafely None words contents = Unit {0}
-JobGoesSafely (Some (File index seed workers runs)) words contents = FileGoesSafely seed runs (contents (slice_index_or words index []))
+JobGoesSafely (Some (File index seed workers runs)) words contents =
+    FilesGoSafely seed runs (expanded contents (slice_index_or words index []))
 JobGoesSafely (Some (Make n)) words contents = TextGoesSafely None None (generated n)

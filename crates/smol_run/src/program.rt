@@ -3,29 +3,29 @@ ghost use Rattle.std.specs.Prelude.{◌≡◌, ◌≢◌, ◌≤◌, None, map, 
 ghost use Rattle.smol_edge.specs.Faults.{Rose, Tells};
 ghost use Rattle.smol_run.specs.Words.{AreRuns, AreWorkers, job_of, NamesNoFile};
 ghost use Rattle.smol_run.specs.Generated.{generated};
-ghost use Rattle.smol_run.specs.Asked.{AsksForJob, AsksOnce};
+ghost use Rattle.smol_run.specs.Asked.{AsksForJob};
+ghost use Rattle.smol_macro.specs.Files.{AsksFront};
+ghost use Rattle.smol_macro.specs.Including.{expanded, files_of};
 ghost use Rattle.smol_run.specs.Ends.{CountsLoss, CountsReads, CountsWrites, EndsWithSome, FitsWords, GoesWith, GoesWithSome, IsDefinite, IsFrontOf, IsLost, IsMisuse, IsRun, IsUnread};
 ghost use Rattle.smol_run.specs.Ways.{JobGoesSafely};
-ghost use Rattle.smol_run.specs.Outcome.{outcome_by, outcome_of, outcome_of_file, outcome_of_text, refused, seed_of};
+ghost use Rattle.smol_run.specs.Outcome.{outcome_by, outcome_of, outcome_of_files, outcome_of_text, refused, seed_of};
 
 use crate::ensemble::run_ensemble;
 use crate::error_lines::{fault_text, tell};
 use crate::given::Given;
 use crate::loss::Loss;
 use crate::make::make_config;
-use crate::refusal::{refusal_of, refusal_of_take};
+use crate::refusal::{refusal_of, refusal_of_files};
 use crate::run::run_config;
 use crate::status::{Status, status_told};
 use crate::stop::Stop;
 use crate::words::{Job, read_words};
 use smol_config::read_config;
-use smol_edge::{Gate, Outlets, Source, take_all};
+use smol_edge::{Gate, Outlets, Source};
+use smol_macro::expand;
 use smol_types::Config;
 use std::alloc::Global;
 use std::thread::Threads;
-
-/// How long a configuration may be, in bytes.
-const MOST_BYTES: usize = 4_194_304;
 
 /// How many workers run a text that is made.
 const MAKE_WORKERS: u32 = 4;
@@ -33,7 +33,7 @@ const MAKE_WORKERS: u32 = 4;
 const USAGE: &[u8] = b"usage: smol FILE [--seed N] [--workers N] [--runs N] or smol --make N\n";
 
 /// Runs what the words of the command line ask for over a source and outlets, and answers the exit status.
-/// Files are read from the source. Lines for people who read along go to outlet 1, the rest where the
+/// Files are read from the source: the one that is named, and those that it asks for. Lines for people who read along go to outlet 1, the rest where the
 /// configuration says. Outlets that aren't 0 or 1 are opened by this call.
 pub fn run_program<R: Threads + Sync, S: Source, K: Outlets, G: Gate + Sync>(
     rt: &R,
@@ -173,7 +173,7 @@ fn run_given<R: Threads + Sync, K: Outlets, G: Gate + Sync>(
     }
 }
 
-// Runs a text that isn't too long, as the words say.
+// Runs a text, as the words say.
 fn run_text<R: Threads + Sync, K: Outlets, G: Gate + Sync>(
     rt: &R,
     alloc: Global,
@@ -222,8 +222,8 @@ fn run_made<R: Threads + Sync, K: Outlets, G: Gate + Sync>(
     run_text(rt, alloc, &text, given, outlets, gate)
 }
 
-// Runs the file of this name, as the words say.
-#[tactic(auto, using(crate::proofs::Files::opened_is_there))]
+// Runs the file of this name with those that it asks for, as the words say.
+#[tactic(auto, using(crate::proofs::Files::text_is_there, crate::proofs::Files::refusal_is_there))]
 fn run_file<R: Threads + Sync, S: Source, K: Outlets, G: Gate + Sync>(
     rt: &R,
     alloc: Global,
@@ -237,20 +237,18 @@ fn run_file<R: Threads + Sync, S: Source, K: Outlets, G: Gate + Sync>(
     requires workers { AreWorkers given.workers }
     requires runs { IfSome given.runs AreRuns }
     ensures ended { IfSome (S.told source.old) (λ reading. Tells (K.told outlets.old) (K.told outlets.new)
-        (GoesWithSome (outcome_of_file given.seed given.runs (reading.contents name.now)) result)) }
-    ensures absent { IfSome (S.told source.old) (λ reading. reading.contents name.now ≡ None → IsUnread result) }
+        (GoesWithSome (outcome_of_files given.seed given.runs (expanded reading.contents name.now)) result)) }
+    ensures absent { IfSome (S.told source.old) (λ reading.
+        outcome_of_files given.seed given.runs (expanded reading.contents name.now) ≡ None → IsUnread result) }
     ensures status { IfOk result IsRun }
-    ensures asked { Tells (S.told source.old) (S.told source.new) (AsksOnce name.now) }
+    ensures asked { Tells (S.told source.old) (S.told source.new) (AsksFront (λ contents. files_of contents name.now)) }
     ensures reads { CountsReads result (S.faults source.old) (S.faults source.new) }
     ensures writes { CountsWrites result (K.faults outlets.old) (K.faults outlets.new) }
 {
-    let Ok(()) = source.open(name) else {
-        return Err(Stop::Input);
-    };
-    match take_all(alloc, source, MOST_BYTES) {
+    match expand(alloc, source, name) {
         Ok(text) => Ok(run_text(rt, alloc, &text, given, outlets, gate)?),
         Err(fault) => {
-            let refusal = refusal_of_take(fault)?;
+            let refusal = refusal_of_files(fault)?;
             Ok(refuse(alloc, outlets, refusal.line, refusal.kind.text())?)
         }
     }

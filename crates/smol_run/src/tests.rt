@@ -256,14 +256,18 @@ fn a_failing_write_leaves_a_front(rt: HostRuntime) -> Result<(), Fail> {
 }
 
 // Runs the three molecules over a source that fails at one call alone, and tells whether they met it. Where they did, nothing is
-// written, and else all is there.
+// written, and else all is there. The file may ask for the others.
 fn meets_failing_read<R: Abort + AllocGlobal + Sync + Threads>(
     rt: &R,
     text: &str,
+    others: &[(&str, &str)],
     call: u32,
 ) -> Result<bool, AllocError> {
     let words = owned(rt.alloc(), &["f"])?;
     let mut source = MemSource::of(rt.alloc(), "f", text.as_bytes(), &[call])?;
+    for (name, other) in others {
+        source.add(name, other.as_bytes())?;
+    }
     let mut outlets = MemOutlets::of(rt.alloc(), &[], 4096)?;
     let status = run_program(rt, rt.alloc(), &words, &mut source, &mut outlets, &Open);
     assert_eq!(rt; outlets.bytes(1).len(), 0);
@@ -276,17 +280,31 @@ fn meets_failing_read<R: Abort + AllocGlobal + Sync + Threads>(
     Ok(false)
 }
 
-// The file is opened, read, and read once more to find its end: each of these calls fails in turn, and no other is made.
-#[test]
-fn a_failing_read_leaves_nothing(rt: HostRuntime) -> Result<(), Fail> {
-    let text = text_of(rt.alloc(), &LINES)?;
+// Lets each call of the source fail in turn, until a run meets none that fails, and answers the number of that one.
+fn first_unmet<R: Abort + AllocGlobal + Sync + Threads>(
+    rt: &R,
+    text: &str,
+    others: &[(&str, &str)],
+) -> Result<u32, AllocError> {
     for call in 1..100 {
-        if !meets_failing_read(&rt, &text, call)? {
-            assert_eq!(rt; call, 4);
-            return Ok(());
+        if !meets_failing_read(rt, text, others, call)? {
+            return Ok(call);
         }
     }
     panic!(rt; "some call fails in every run")
+}
+
+// A file is opened, read, and read once more to find its end: each of these calls fails in turn, and no other is made.
+#[test]
+fn a_failing_read_leaves_nothing(rt: HostRuntime) -> Result<(), Fail> {
+    let text = text_of(rt.alloc(), &LINES)?;
+    assert_eq!(rt; first_unmet(&rt, &text, &[])?, 4);
+    let mut first = text_of(rt.alloc(), &LINES[..8])?;
+    first.push_str("read_file g\n")?;
+    let last = text_of(rt.alloc(), &LINES[8..])?;
+    let others = [("g", "define unused 3\nread_file h\n"), ("h", last.as_str())];
+    assert_eq!(rt; first_unmet(&rt, &first, &others)?, 10);
+    Ok(())
 }
 
 // Three commands print a line each, and the write of the third line fails.

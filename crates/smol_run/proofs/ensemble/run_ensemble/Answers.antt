@@ -1,4 +1,4 @@
-use Rattle.std.proofs.Common.{refl, sym, ◌∙◌}
+use Rattle.std.proofs.Common.{refl, ◌∙◌}
 use Rattle.smol_edge.specs.Outlets.{Appends}
 use Rattle.smol_edge.proofs.Telling.{Tells-weaker}
 use Rattle.smol_run.specs.declared.status.Status.TheVariants as status
