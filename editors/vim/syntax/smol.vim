@@ -38,6 +38,13 @@ syntax match smolStatement /^\s*\zsend_compartment\ze\%(\s\|#\|$\)/
 syntax match smolStatement /^\s*\zsoutput_files\ze\%(\s\|#\|$\)/
 syntax match smolStatement /^\s*\zscmd\ze\%(\s\|#\|$\)/
 syntax match smolStatement /^\s*\zsend_file\ze\%(\s\|#\|$\)/
+syntax match smolDirective /^\s*\zsread_file\ze\%(\s\|#\|$\)/
+syntax match smolDirective /^\s*\zsifdefine\ze\%(\s\|#\|$\)/
+syntax match smolDirective /^\s*\zsifundefine\ze\%(\s\|#\|$\)/
+syntax match smolDirective /^\s*\zselse\ze\%(\s\|#\|$\)/
+syntax match smolDirective /^\s*\zsendif\ze\%(\s\|#\|$\)/
+syntax match smolDirective /^\s*\zsdefine\ze\%(\s\|#\|$\)/
+syntax match smolDirective /^\s*\zsundefine\ze\%(\s\|#\|$\)/
 syntax match smolPassedOver /^\s*\zsgraphics\ze\%(\s\|#\|$\)/
 syntax match smolPassedOver /^\s*\zsgraphic_iter\ze\%(\s\|#\|$\)/
 syntax match smolPassedOver /^\s*\zsgraphic_delay\ze\%(\s\|#\|$\)/
@@ -77,13 +84,6 @@ syntax match smolPassedOver /^\s*\zsmargin\ze\%(\s\|#\|$\)/
 syntax match smolPassedOver /^\s*\zsneighbor_dist\ze\%(\s\|#\|$\)/
 syntax match smolLeftOut /^\s*\zslow_wall\ze\%(\s\|#\|$\)/
 syntax match smolLeftOut /^\s*\zshigh_wall\ze\%(\s\|#\|$\)/
-syntax match smolLeftOut /^\s*\zsdefine\ze\%(\s\|#\|$\)/
-syntax match smolLeftOut /^\s*\zsundefine\ze\%(\s\|#\|$\)/
-syntax match smolLeftOut /^\s*\zsifdefine\ze\%(\s\|#\|$\)/
-syntax match smolLeftOut /^\s*\zsifundefine\ze\%(\s\|#\|$\)/
-syntax match smolLeftOut /^\s*\zselse\ze\%(\s\|#\|$\)/
-syntax match smolLeftOut /^\s*\zsendif\ze\%(\s\|#\|$\)/
-syntax match smolLeftOut /^\s*\zsread_file\ze\%(\s\|#\|$\)/
 syntax match smolLeftOut /^\s*\zsoutput_root\ze\%(\s\|#\|$\)/
 syntax match smolLeftOut /^\s*\zsoutput_precision\ze\%(\s\|#\|$\)/
 syntax match smolLeftOut /^\s*\zsappend_files\ze\%(\s\|#\|$\)/
@@ -108,6 +108,7 @@ syntax region smolBlockComment start=/^\s*\/\*\%(\s.*\|#.*\)\?$/ end=/^\s*\*\/\%
 syntax region smolBehindTheEnd matchgroup=smolStatement start=/^\s*\zsend_file\ze\%(\s\|#\|$\)/ end=/\%$/
 syntax sync fromstart
 highlight default link smolStatement Statement
+highlight default link smolDirective Macro
 highlight default link smolPassedOver PreProc
 highlight default link smolLeftOut Error
 highlight default link smolCommand Function
