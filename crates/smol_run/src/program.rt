@@ -8,6 +8,7 @@ ghost use Rattle.smol_macro.specs.Files.{AsksFront};
 ghost use Rattle.smol_macro.specs.Including.{expanded, files_of};
 ghost use Rattle.smol_run.specs.Ends.{CountsLoss, CountsReads, CountsWrites, EndsWithSome, FitsWords, GoesWith, GoesWithSome, IsDefinite, IsFrontOf, IsLost, IsMisuse, IsRun, IsUnread};
 ghost use Rattle.smol_run.specs.Ways.{JobGoesSafely};
+ghost use Rattle.smol_run.specs.Expanded.{PlainFileTellsTheSame};
 ghost use Rattle.smol_run.specs.Outcome.{outcome_by, outcome_of, outcome_of_files, outcome_of_text, refused, seed_of};
 
 use crate::ensemble::run_ensemble;
@@ -61,6 +62,10 @@ pub fn run_program<R: Threads + Sync, S: Source, K: Outlets, G: Gate + Sync>(
     // stays inside, with all that it makes.
     ensures ways { IfSome (S.told source.old) (λ reading.
         JobGoesSafely (job_of (map (λ word. string_bytes word) words.now)) (map (λ word. string_bytes word) words.now) reading.contents) }
+
+    // Where the file that is named has no directives, its expanded text means what the file means by itself.
+    ensures plain { IfSome (S.told source.old) (λ reading.
+        PlainFileTellsTheSame (job_of (map (λ word. string_bytes word) words.now)) (map (λ word. string_bytes word) words.now) reading.contents) }
 
     // Neither of these comes by itself, and no fault is hidden by another status.
     ensures input { result ≡ Status.Input → Rose (S.faults source.old) (S.faults source.new) }

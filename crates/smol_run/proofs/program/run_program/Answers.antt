@@ -4,6 +4,7 @@ use Rattle.smol_run.specs.declared.stop.Stop.{Stop}
 use Rattle.smol_run.specs.Outcome.{outcome_of}
 use Rattle.smol_run.specs.Words.{job_of}
 use Rattle.smol_run.proofs.Cuts.{front_told}
+use Rattle.smol_run.proofs.PlainFiles.{all_plain_same}
 use Rattle.smol_run.proofs.Safety.{all_safe}
 use Rattle.smol_run.proofs.Statuses.{absent_is_lost, definite_ends, read_failed, usage_is_misuse, write_failed}
 use Rattle.smol_run.proofs.program.run_program.Goals as goal
@@ -27,6 +28,11 @@ pub returns-clause-ways : goal.returns-clause-ways
 returns-clause-ways g c =
     let words = map (λ word. string_bytes word) c.args.words.now in
     all_safe (job_of words) words (g.S.Source.told c.args.source.now)
+
+pub returns-clause-plain : goal.returns-clause-plain
+returns-clause-plain g c =
+    let words = map (λ word. string_bytes word) c.args.words.now in
+    all_plain_same (job_of words) words (g.S.Source.told c.args.source.now)
 
 pub returns-clause-input : goal.returns-clause-input
 returns-clause-input g c =
