@@ -12,3 +12,4 @@ pub mod WholeText
 pub mod PlainLines
 pub mod PlainText
 pub mod PlainFile
+pub mod ShortText

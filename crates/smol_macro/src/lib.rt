@@ -18,4 +18,4 @@ mod words;
 
 pub use expand_fault::{ExpandFault, MacroKind};
 pub use expansion::expand;
-pub use law::plain_files_say_the_same;
+pub use law::{expanded_texts_are_short, plain_files_say_the_same};

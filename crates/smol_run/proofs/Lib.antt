@@ -10,3 +10,4 @@ pub mod Statuses
 pub mod PlainText
 pub mod MadeLines
 pub mod MadeRead
+pub mod PlainFiles

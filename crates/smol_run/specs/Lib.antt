@@ -7,3 +7,4 @@ pub mod Opening
 pub mod Ends
 pub mod Told
 pub mod Ways
+pub mod Expanded

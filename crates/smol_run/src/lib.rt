@@ -23,7 +23,7 @@ mod stop;
 mod tests;
 mod words;
 
-pub use law::made_texts_are_accepted;
+pub use law::{made_texts_are_accepted, plain_files_mean_the_same};
 pub use make::make_config;
 pub use program::run_program;
 pub use status::Status;
