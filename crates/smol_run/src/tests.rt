@@ -302,7 +302,10 @@ fn a_failing_read_leaves_nothing(rt: HostRuntime) -> Result<(), Fail> {
     let mut first = text_of(rt.alloc(), &LINES[..8])?;
     first.push_str("read_file g\n")?;
     let last = text_of(rt.alloc(), &LINES[8..])?;
-    let others = [("g", "define unused 3\nread_file h\n"), ("h", last.as_str())];
+    let others = [
+        ("g", "define unused 3\nread_file h\n"),
+        ("h", last.as_str()),
+    ];
     assert_eq!(rt; first_unmet(&rt, &first, &others)?, 10);
     Ok(())
 }
