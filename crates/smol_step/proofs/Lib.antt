@@ -3,5 +3,6 @@ mod Encountered
 mod Freed
 mod Halves
 mod InPlace
+mod Keeping
 mod Removed
 mod Still

@@ -1,4 +1,5 @@
 pub mod Chance
 pub mod Displacement
 pub mod Generator
+pub mod Kept
 pub mod Words

@@ -3,10 +3,11 @@
 
 mod chance;
 mod displacement;
+mod kept;
 mod streams;
 
-pub use chance::Drawn;
 pub use displacement::scale;
+pub use kept::{Drawn, Kept};
 pub use streams::Streams;
 
 #[cfg(test)]
