@@ -1,6 +1,5 @@
 //! The steps of a run, with the commands that are due between them.
-ghost use Rattle.std.specs.Prelude.{◌≡◌, ◌+◌, ◌-◌, ◌≤◌, All, IsErrOf, OnOk, length};
-ghost use Rattle.smol_streams.specs.Kept.{IsKept};
+ghost use Rattle.std.specs.Prelude.{◌≡◌, ◌+◌, ◌-◌, ◌≤◌, IsErrOf, OnOk, length};
 ghost use Rattle.smol_types.specs.Limits.{last_serial, most_steps};
 ghost use Rattle.smol_types.specs.Sound.{IsSound};
 ghost use Rattle.smol_types.specs.State.{Fits};
@@ -16,8 +15,7 @@ use crate::run::{Run, Team};
 use crate::run_fault::RunFault;
 use smol_commands::Flow;
 use smol_edge::Gate;
-use smol_step::advance_keeping;
-use smol_streams::Kept;
+use smol_step::advance_with;
 use smol_types::{Config, Items, Phase, State, last_step};
 use std::mem;
 use std::thread::Threads;
@@ -36,20 +34,17 @@ fn make_step<R: Threads + Sync, G: Gate + Sync>(
     team: &Team<R, G>,
     run: &Run,
     state: &mut State,
-    kept: &mut Vec<Kept>,
 ) -> Result<Flow, RunFault>
     requires sound { IsSound run.now.setup.now }
     requires fits { Fits run.now.setup.now state.old }
     requires further { state.old.step + 1 ≤ steps_of run.now.setup.now }
     requires room { state.old.next ≤ last_serial - 16000000 }
-    requires kept { All (IsKept run.now.seed) kept.old.items }
 
     ensures ended { EndsPart (step_of run.now.setup.now run.now.seed state.old) state.new result }
     ensures fits { OnOk result (Fits run.now.setup.now state.new) }
     ensures serials { OnOk result (state.new.next ≤ state.old.next + 16000000) }
     ensures step { OnOk result (state.new.step ≡ state.old.step + 1) }
     ensures no_output { IsErrOf result RunFault.OutputFault → ⊥ }
-    ensures kept { All (IsKept run.now.seed) kept.new.items }
 {
     let k = state.step + 1;
     let nobody = State {
@@ -58,7 +53,7 @@ fn make_step<R: Threads + Sync, G: Gate + Sync>(
         next: 0,
     };
     let before = mem::replace(state, nobody);
-    match advance_keeping(
+    match advance_with(
         team.rt,
         run.alloc,
         run.setup,
@@ -66,7 +61,6 @@ fn make_step<R: Threads + Sync, G: Gate + Sync>(
         run.seed,
         team.workers,
         team.gate,
-        kept,
     ) {
         Ok(next) => {
             *state = next;
@@ -82,22 +76,19 @@ fn perform_and_step<R: Threads + Sync, W: Readers, G: Gate + Sync>(
     run: &Run,
     held: &mut Held,
     readers: &mut W,
-    kept: &mut Vec<Kept>,
 ) -> Result<Flow, RunFault>
     requires ready { IsReady run.now.setup.now run.now.seed (W.opened readers.old) held.old }
     requires further { held.old.state.step + 1 ≤ steps_of run.now.setup.now }
     requires room { held.old.state.next + 272000000 ≤ last_serial }
-    requires kept { All (IsKept run.now.seed) kept.old.items }
 
     ensures left { Leaves (one_step run.now.setup.now run.now.seed held.old.state) result held.new.state
         (W.told readers.old) (W.told readers.new) (W.faults readers.old) (W.faults readers.new) }
     ensures ready { StaysReady run.now.setup.now run.now.seed (W.opened readers.new) result held.new }
     ensures serials { OnOk result (held.new.state.next ≤ held.old.state.next + 272000000) }
     ensures step { result ≡ Ok Flow.Go → held.new.state.step ≡ held.old.state.step + 1 }
-    ensures kept { All (IsKept run.now.seed) kept.new.items }
 {
     match perform_due(run, Phase::At(held.state.step), held, readers) {
-        Ok(Flow::Go) => make_step(team, run, &mut held.state, kept),
+        Ok(Flow::Go) => make_step(team, run, &mut held.state),
         Ok(Flow::Stop) => Ok(Flow::Stop),
         Err(fault) => Err(fault),
     }
@@ -120,9 +111,8 @@ pub fn make_steps<R: Threads + Sync, W: Readers, G: Gate + Sync>(
     ensures serials { OnOk result (held.new.state.next ≤ held.old.state.next + 1088000256000000) }
 {
     let last = steps_of(run.setup.config());
-    let mut kept: Vec<Kept> = Vec::new(run.alloc);
     for _step in 0..last {
-        match perform_and_step(team, run, held, readers, &mut kept) {
+        match perform_and_step(team, run, held, readers) {
             Ok(Flow::Go) => {}
             Ok(Flow::Stop) => return Ok(Flow::Stop),
             Err(fault) => return Err(fault),

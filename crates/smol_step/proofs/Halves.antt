@@ -1,7 +1,7 @@
 -- Two halves of a list, of which so many items are left in each.
-use Rattle.std.proofs.Common.{◌≡◌, ℕ, ◌+◌, ◌≤◌, All, List, ◌++◌, length, map, take, drop, Option, ap, ap₂, sym, ◌∙◌, subst, arith}
+use Rattle.std.proofs.Common.{◌≡◌, ℕ, ◌+◌, ◌≤◌, List, ◌++◌, length, map, take, drop, Option, ap, ap₂, sym, ◌∙◌, arith}
 use Rattle.std.proofs.lemmas.List.{drop_at, drop-take, length-append, map-append, take-append-drop, take-append-le, take-take}
-use Rattle.std.proofs.lemmas.List.Elements.{All-append, filter_map-append}
+use Rattle.std.proofs.lemmas.List.Elements.{filter_map-append}
 use Rattle.smol_types.specs.declared.draft.Draft.{Draft}
 use Rattle.smol_types.specs.declared.state.Mol.{Mol}
 use Rattle.smol_meaning.specs.Events.{lone_reaction}
@@ -19,13 +19,6 @@ kept_of_both : {X : Type 0} (front back after : List X) (a b middle : ℕ) → l
     → take (a + b) after ≡ take a (front ++ back) ++ take b (drop middle (front ++ back)) → take (a + b) after ≡ take a front ++ take b back
 kept_of_both front back after a b middle long within is =
     is ∙ ap₂ ◌++◌ (take-append-le a front back within) (ap (take b) (drop_at front back middle long))
-
--- what holds of each item that is left in two halves
-pub all_of_both : {X : Type 0} (P : X → Type 0) (front back after : List X) (a b middle : ℕ) → length front ≡ middle → a ≤ length front
-    → take (a + b) after ≡ take a (front ++ back) ++ take b (drop middle (front ++ back))
-    → All P (take a front) → All P (take b back) → All P (take (a + b) after)
-all_of_both P front back after a b middle long within is one two =
-    subst (All P) (sym (kept_of_both front back after a b middle long within is)) (All-append P (take a front) (take b back) one two)
 
 -- what is closed up of two halves that were moved
 pub closed_up : (draft : Draft) (seed k : ℕ) (old front back front_after back_after after : List Mol)

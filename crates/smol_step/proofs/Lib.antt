@@ -3,6 +3,5 @@ mod Encountered
 mod Freed
 mod Halves
 mod InPlace
-mod Keeping
 mod Removed
 mod Still

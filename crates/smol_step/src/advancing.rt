@@ -5,7 +5,6 @@ ghost use Rattle.smol_types.specs.Limits.{last_serial};
 ghost use Rattle.smol_types.specs.Sound.{IsSound};
 ghost use Rattle.smol_types.specs.State.{Ascend, Fits};
 ghost use Rattle.smol_types.specs.Steps.{last_step};
-ghost use Rattle.smol_streams.specs.Kept.{IsKept};
 ghost use Rattle.smol_pairs.specs.Moved.{AreMoved};
 ghost use Rattle.smol_meaning.specs.Events.{lone_reaction};
 ghost use Rattle.smol_meaning.specs.Motion.{all_diffused};
@@ -29,7 +28,7 @@ use crate::together::meet;
 use crate::turn::Turn;
 use smol_births::births;
 use smol_edge::Gate;
-use smol_streams::{Kept, Streams};
+use smol_streams::Streams;
 use smol_travel::Panels;
 use smol_types::{Config, Items, Mol, State};
 use std::alloc::{AllocError, Global};
@@ -57,8 +56,7 @@ fn react<R: Threads + Sync, G: Gate + Sync>(
     Ok(reacting)
 }
 
-// The state after a step, whatever the limit, of these molecules after its motion. What is kept stays beside those that are left.
-#[tactic(auto, using(crate::proofs::Keeping::all_picked))]
+// The state after a step, whatever the limit, of these molecules after its motion.
 fn reacted<R: Threads + Sync, G: Gate + Sync>(
     rt: &R,
     alloc: Global,
@@ -67,7 +65,6 @@ fn reacted<R: Threads + Sync, G: Gate + Sync>(
     mols: Vec<Mol>,
     reactions: &[Option<u16>],
     next: u64,
-    kept: &mut Vec<Kept>,
 ) -> Result<State, AllocError>
     requires sound { IsSound setup.now }
     requires turn { IsTurn turn.now.k turn.now.workers }
@@ -76,16 +73,12 @@ fn reacted<R: Threads + Sync, G: Gate + Sync>(
     requires placed { All (IsPlaced setup.now (2 ^ 57)) mols.items }
     requires reactions { reactions.now ≡ map (lone_reaction setup.now turn.now.seed turn.now.k) mols.items }
     requires next { next ≤ last_serial }
-    requires beside { length kept.old.items ≡ length mols.items }
-    requires kept { All (IsKept turn.now.seed) kept.old.items }
-    ensures state { IfOk result (λ state. state ≡ reacted setup.now turn.now.seed turn.now.k mols.items next) }
-    ensures kept { All (IsKept turn.now.seed) kept.new.items }
+    ensures { IfOk result (λ state. state ≡ reacted setup.now turn.now.seed turn.now.k mols.items next) }
 {
     let mut mols = mols;
     let reacting = react(rt, alloc, setup, turn, &mols, reactions)?;
     let births = births(alloc, setup.config(), &reacting.events, next)?;
     keep_free(&mut mols, &reacting.free);
-    keep_free(kept, &reacting.free);
     add_newborn(setup.panels(), &births, &mut mols)?;
     Ok(State {
         step: turn.k,
@@ -103,16 +96,13 @@ fn stepped<R: Threads + Sync, G: Gate + Sync>(
     seed: u64,
     workers: u32,
     gate: &G,
-    kept: &mut Vec<Kept>,
 ) -> Result<State, AllocError>
     requires sound { IsSound setup.now }
     requires fits { Fits setup.now state }
     requires further { state.step + 1 ≤ last_step setup.now.start setup.now.stop setup.now.step }
     requires room { state.next ≤ last_serial - 16000000 }
-    requires kept { All (IsKept seed) kept.old.items }
-    ensures state { IfOk result (λ after. after
+    ensures { IfOk result (λ after. after
         ≡ reacted setup.now seed (state.step + 1) (all_diffused setup.now seed (state.step + 1) state.mols) state.next) }
-    ensures kept { All (IsKept seed) kept.new.items }
 {
     let State { step, mols, next } = state;
     let turn = Turn {
@@ -122,8 +112,8 @@ fn stepped<R: Threads + Sync, G: Gate + Sync>(
         gate,
     };
     let mut mols = mols.into_vec();
-    let reactions = diffuse(rt, alloc, setup, seed, turn.k, &mut mols, kept)?;
-    reacted(rt, alloc, setup, &turn, mols, &reactions, next, kept)
+    let reactions = diffuse(rt, alloc, setup, seed, turn.k, &mut mols)?;
+    reacted(rt, alloc, setup, &turn, mols, &reactions, next)
 }
 
 // The state, where it has no more than so many molecules, and otherwise how many it has. Takes no memory.
@@ -150,38 +140,6 @@ fn step_told(most: u32, made: Result<State, AllocError>) -> Result<State, StepFa
     }
 }
 
-/// Makes the step after this state as `advance_with` does, with what was kept of the words of the step before. What is kept for the
-/// next step stands there then, also where this one fails. Nothing that is kept changes the answer.
-pub fn advance_keeping<R: Threads + Sync, G: Gate + Sync>(
-    rt: &R,
-    alloc: Global,
-    setup: &Setup,
-    state: State,
-    seed: u64,
-    workers: u32,
-    gate: &G,
-    kept: &mut Vec<Kept>,
-) -> Result<State, StepFault>
-    requires fits { Fits setup.now state }
-    requires further { state.step + 1 ≤ last_step setup.now.start setup.now.stop setup.now.step }
-    requires room { state.next ≤ last_serial - 16000000 }
-    requires kept { All (IsKept seed) kept.old.items }
-    ensures answer { IsAnswer (next_state setup.now seed state) result }
-    ensures fits { IfOk result (Fits setup.now) }
-    ensures serials { IfOk result (λ after. after.next ≤ state.next + 16000000) }
-    ensures no_way_crosses { All (CrossesNoFace setup.now) (moves_of setup.now seed state) }
-    ensures ways_are_confined { All (StaysInBoxes setup.now) (moves_of setup.now seed state) }
-    ensures boxes_hold { IfOk result (λ after. (box : Cuboid) (serial : ℕ) → IsClosedBox setup.now box
-        → IsIn box serial state → IsInOrGone box serial after) }
-    ensures products_stay { (box : Cuboid) → IsClosedBox setup.now box → LoneProductsAreConfined setup.now seed state box }
-    ensures pairs_stay { (box : Cuboid) → IsClosedBox setup.now box → PairsAreConfined setup.now seed state box }
-    ensures kept { All (IsKept seed) kept.new.items }
-{
-    let most = setup.config().max_mol();
-    let made = stepped(rt, alloc, setup, state, seed, workers, gate, kept);
-    step_told(most, made)
-}
-
 /// Makes the step after this state. Its pairs are matched by so many workers, where fewer than 1 count as 1
 /// and more than 16 as 16. Neither their number nor the gate changes the answer.
 pub fn advance_with<R: Threads + Sync, G: Gate + Sync>(
@@ -206,8 +164,9 @@ pub fn advance_with<R: Threads + Sync, G: Gate + Sync>(
     ensures products_stay { (box : Cuboid) → IsClosedBox setup.now box → LoneProductsAreConfined setup.now seed state box }
     ensures pairs_stay { (box : Cuboid) → IsClosedBox setup.now box → PairsAreConfined setup.now seed state box }
 {
-    let mut kept = Vec::new(alloc);
-    advance_keeping(rt, alloc, setup, state, seed, workers, gate, &mut kept)
+    let most = setup.config().max_mol();
+    let made = stepped(rt, alloc, setup, state, seed, workers, gate);
+    step_told(most, made)
 }
 
 /// Makes the step after this state as `advance_with` does, where what it looks up is made for this step alone.

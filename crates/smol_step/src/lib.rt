@@ -14,7 +14,7 @@ mod step_fault;
 mod together;
 mod turn;
 
-pub use advancing::{advance, advance_keeping, advance_with};
+pub use advancing::{advance, advance_with};
 pub use setup::Setup;
 pub use smol_travel::Panels;
 pub use step_fault::StepFault;

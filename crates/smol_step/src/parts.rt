@@ -1,7 +1,6 @@
 //! Motion of many molecules in parts, side by side.
 ghost use Rattle.std.specs.Prelude.{◌≡◌, ◌+◌, ◌++◌, ◌^◌, ◌≤◌, All, IfOk, OnOk, length, map, take, drop};
 ghost use Rattle.std.specs.Thread.{IsSync};
-ghost use Rattle.smol_streams.specs.Kept.{IsKept};
 ghost use Rattle.smol_meaning.specs.Events.{lone_reaction};
 ghost use Rattle.smol_meaning.specs.Motion.{all_diffused};
 ghost use Rattle.smol_meaning.specs.Placed.{IsPlaced};
@@ -10,7 +9,6 @@ ghost use Rattle.smol_step.specs.Diffused.{AreDiffused};
 use crate::motion::diffuse_in_turn;
 use crate::setup::Setup;
 use rayon::{current_num_threads, join_mut};
-use smol_streams::{Kept, Streams};
 use smol_types::Mol;
 use std::alloc::{AllocError, Global};
 use std::thread::Threads;
@@ -49,23 +47,17 @@ fn diffuse_halved<R: Threads + Sync>(
     halvings: u32,
     mols: &mut [Mol],
     reactions: &mut [Option<u16>],
-    kept: &mut [Kept],
 ) -> usize
     requires placed { All (IsPlaced setup.now (2 ^ 57)) mols.old }
     requires beside { length reactions.old ≡ length mols.old }
-    requires kept_beside { length kept.old ≡ length mols.old }
-    requires kept { All (IsKept seed) kept.old }
-    ensures diffused { AreDiffused setup.now seed k mols.old mols.new reactions.new result }
-    ensures kept { All (IsKept seed) (take result kept.new) }
-    ensures kept_count { length kept.new ≡ length kept.old }
+    ensures { AreDiffused setup.now seed k mols.old mols.new reactions.new result }
 {
     if halvings == 0 || mols.len() < WORTH_A_THREAD {
-        return diffuse_in_turn(setup, seed, k, mols, reactions, kept);
+        return diffuse_in_turn(setup, seed, k, mols, reactions);
     }
     let middle = mols.len() / 2;
     let (front_mols, back_mols) = mols.split_at_mut(middle);
     let (front_reactions, back_reactions) = reactions.split_at_mut(middle);
-    let (front_kept, back_kept) = kept.split_at_mut(middle);
     let (front, back) = diffuse_both(
         rt,
         setup,
@@ -74,14 +66,11 @@ fn diffuse_halved<R: Threads + Sync>(
         halvings - 1,
         front_mols,
         front_reactions,
-        front_kept,
         back_mols,
         back_reactions,
-        back_kept,
     );
     close_up(mols, middle, front, back);
     close_up(reactions, middle, front, back);
-    close_up(kept, middle, front, back);
     front + back
 }
 
@@ -95,81 +84,31 @@ fn diffuse_both<R: Threads + Sync>(
     halvings: u32,
     front_mols: &mut [Mol],
     front_reactions: &mut [Option<u16>],
-    front_kept: &mut [Kept],
     back_mols: &mut [Mol],
     back_reactions: &mut [Option<u16>],
-    back_kept: &mut [Kept],
 ) -> (usize, usize)
     requires front_placed { All (IsPlaced setup.now (2 ^ 57)) front_mols.old }
     requires front_beside { length front_reactions.old ≡ length front_mols.old }
-    requires front_kept_beside { length front_kept.old ≡ length front_mols.old }
-    requires front_kept { All (IsKept seed) front_kept.old }
     requires back_placed { All (IsPlaced setup.now (2 ^ 57)) back_mols.old }
     requires back_beside { length back_reactions.old ≡ length back_mols.old }
-    requires back_kept_beside { length back_kept.old ≡ length back_mols.old }
-    requires back_kept { All (IsKept seed) back_kept.old }
     ensures front { AreDiffused setup.now seed k front_mols.old front_mols.new front_reactions.new result.0 }
-    ensures front_kept { All (IsKept seed) (take result.0 front_kept.new) }
-    ensures front_count { length front_kept.new ≡ length front_kept.old }
     ensures back { AreDiffused setup.now seed k back_mols.old back_mols.new back_reactions.new result.1 }
-    ensures back_kept { All (IsKept seed) (take result.1 back_kept.new) }
-    ensures back_count { length back_kept.new ≡ length back_kept.old }
 {
     let mut front = || -> usize
         requires { IsSync R.row × All (IsPlaced setup.now (2 ^ 57)) front_mols.now
-            × (length front_reactions.now ≡ length front_mols.now) × (length front_kept.now ≡ length front_mols.now)
-            × All (IsKept seed) front_kept.now }
-        ensures { AreDiffused setup.entry.now seed k front_mols.entry.now front_mols.exit.now front_reactions.exit.now result
-            × All (IsKept seed) (take result front_kept.exit.now) × (length front_kept.exit.now ≡ length front_kept.entry.now) }
-    {
-        diffuse_halved(
-            rt,
-            setup,
-            seed,
-            k,
-            halvings,
-            front_mols,
-            front_reactions,
-            front_kept,
-        )
-    };
+            × (length front_reactions.now ≡ length front_mols.now) }
+        ensures { AreDiffused setup.entry.now seed k front_mols.entry.now front_mols.exit.now front_reactions.exit.now result }
+    { diffuse_halved(rt, setup, seed, k, halvings, front_mols, front_reactions) };
     let mut back = || -> usize
         requires { IsSync R.row × All (IsPlaced setup.now (2 ^ 57)) back_mols.now
-            × (length back_reactions.now ≡ length back_mols.now) × (length back_kept.now ≡ length back_mols.now)
-            × All (IsKept seed) back_kept.now }
-        ensures { AreDiffused setup.entry.now seed k back_mols.entry.now back_mols.exit.now back_reactions.exit.now result
-            × All (IsKept seed) (take result back_kept.exit.now) × (length back_kept.exit.now ≡ length back_kept.entry.now) }
-    {
-        diffuse_halved(
-            rt,
-            setup,
-            seed,
-            k,
-            halvings,
-            back_mols,
-            back_reactions,
-            back_kept,
-        )
-    };
+            × (length back_reactions.now ≡ length back_mols.now) }
+        ensures { AreDiffused setup.entry.now seed k back_mols.entry.now back_mols.exit.now back_reactions.exit.now result }
+    { diffuse_halved(rt, setup, seed, k, halvings, back_mols, back_reactions) };
     join_mut(rt, &mut front, &mut back)
 }
 
-// Makes what is kept stand beside so many molecules, where nothing is kept of the words of those that are new.
-fn keep_beside(seed: u64, count: usize, kept: &mut Vec<Kept>) -> Result<(), AllocError>
-    requires { All (IsKept seed) kept.old.items }
-    ensures kept { All (IsKept seed) kept.new.items }
-    ensures beside { OnOk result (length kept.new.items ≡ count) }
-{
-    if kept.len() == count {
-        return Ok(());
-    }
-    let none = Streams::of_seed(seed).keep_none();
-    kept.resize(count, none)
-}
-
 /// Moves all molecules, and tells of each that is left which reaction it makes alone then. Those that are absorbed leave the list,
-/// and the others keep their order. What is kept of the words of the step before is taken, and what is kept for the next one stands
-/// beside those that are left.
+/// and the others keep their order.
 pub(crate) fn diffuse<R: Threads + Sync>(
     rt: &R,
     alloc: Global,
@@ -177,21 +116,15 @@ pub(crate) fn diffuse<R: Threads + Sync>(
     seed: u64,
     k: u32,
     mols: &mut Vec<Mol>,
-    kept: &mut Vec<Kept>,
 ) -> Result<Vec<Option<u16>>, AllocError>
     requires placed { All (IsPlaced setup.now (2 ^ 57)) mols.old.items }
-    requires kept { All (IsKept seed) kept.old.items }
     ensures moved { OnOk result (mols.new.items ≡ all_diffused setup.now seed k mols.old.items) }
     ensures reactions { IfOk result (λ reactions. reactions.items ≡ map (lone_reaction setup.now seed k) mols.new.items) }
-    ensures kept { All (IsKept seed) kept.new.items }
-    ensures beside { OnOk result (length kept.new.items ≡ length mols.new.items) }
 {
-    keep_beside(seed, mols.len(), kept)?;
     let mut reactions: Vec<Option<u16>> = vec![in alloc; None; mols.len()]?;
     let halvings = halvings_of(rt, mols.len());
-    let left = diffuse_halved(rt, setup, seed, k, halvings, mols, &mut reactions, kept);
+    let left = diffuse_halved(rt, setup, seed, k, halvings, mols, &mut reactions);
     mols.truncate(left);
     reactions.truncate(left);
-    kept.truncate(left);
     Ok(reactions)
 }

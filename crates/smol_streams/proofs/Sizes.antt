@@ -22,7 +22,7 @@ halves_small : (word : ℕ) → word < 2 ^ 32 → sum (draws_of word) ≤ 131070
 halves_small word small = omega arith
 
 -- the draws of so many words
-pub draws_small : (key : List ℕ) (stream place n : ℕ) → sum (flat_map draws_of (words_from key stream place n)) ≤ 131070 * n
+draws_small : (key : List ℕ) (stream place n : ℕ) → sum (flat_map draws_of (words_from key stream place n)) ≤ 131070 * n
 draws_small key stream place zero = omega arith
 draws_small key stream place (suc n) =
     let so_far = draws_small key stream place n in

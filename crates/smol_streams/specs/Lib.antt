@@ -1,5 +1,4 @@
 pub mod Chance
 pub mod Displacement
 pub mod Generator
-pub mod Kept
 pub mod Words

@@ -1,12 +1,17 @@
 //! Which random word each draw of a run takes.
 ghost use Rattle.std.specs.Prelude.{◌≡◌, ◌+◌, ◌*◌, ◌^◌, ◌<◌, ◌≤◌, ◌<ℤ◌, ◌+ℤ◌, pos, unsigned_abs};
+ghost use Rattle.smol_geom.specs.Axes.{EachAxis, IsEven, IsWithin, on_axis};
 ghost use Rattle.smol_streams.specs.Chance.{axis_drawn, command_word, coordinate_drawn, first_order_word, lone_axis, pair_axis, pair_stream, pair_word};
+ghost use Rattle.smol_streams.specs.Displacement.{displacement};
 
 use crate::Streams;
+use smol_geom::Step3;
 
 // A step has so many places in a molecule's stream. The first 18 are those of its displacement, six for each axis. Behind them are
 // the word of the reaction that it makes alone, and that of the axis along which its products are taken apart.
 pub const WORDS_A_STEP: u128 = 32;
+
+pub const WORDS_AN_AXIS: u128 = 6;
 
 const REACTION_WORD: u128 = 18;
 
@@ -33,7 +38,28 @@ const WORDS_A_REACTION: u128 = 2;
 // The first of the streams of commands, by number. A step has a place there for each rank.
 const FIRST_OF_COMMANDS: u64 = 3 << 62;
 
+/// What a molecule draws in a step: how far it goes where nothing is in its way, in ticks, and the word of the reaction that it
+/// may make alone.
+#[derive(Clone, Copy, Debug, PartialEq, Eq)]
+pub struct Drawn {
+    pub by: Step3,
+    pub word: u32,
+}
+
 impl Streams {
+    /// What the molecule with this serial and a difstep of s micros draws in step k, where the first `dims` axes are in use.
+    pub fn draw(&mut self, serial: u64, k: u32, s: u32, dims: u8) -> Drawn
+        ensures by { result.by ≡ displacement self.old serial k s dims }
+        ensures even { EachAxis (λ axis. IsEven (on_axis result.by.0 axis)) }
+        ensures size { IsWithin (12 * s + 2) result.by.0 }
+        ensures word { result.word ≡ first_order_word self.old serial k }
+        ensures seed { self.new ≡ self.old }
+    {
+        let by = self.displace(serial, k, s, dims);
+        let word = self.first_order_word(serial, k);
+        Drawn { by, word }
+    }
+
     /// The word that says which reaction a molecule makes alone in step k.
     pub fn first_order_word(&mut self, serial: u64, k: u32) -> u32
         ensures word { result ≡ first_order_word self.old serial k }

@@ -3,11 +3,10 @@
 
 mod chance;
 mod displacement;
-mod kept;
 mod streams;
 
+pub use chance::Drawn;
 pub use displacement::scale;
-pub use kept::{Drawn, Kept};
 pub use streams::Streams;
 
 #[cfg(test)]

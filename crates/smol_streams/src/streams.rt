@@ -1,18 +1,26 @@
-ghost use Rattle.std.specs.Prelude.{◌≡◌, ◌+◌, ◌*◌, ◌%◌, ◌/◌, ◌^◌, ◌<◌};
+ghost use Rattle.std.specs.Prelude.{◌≡◌, ◌+◌, ◌*◌, ◌%◌, ◌/◌, ◌^◌, ◌<◌, ◌≤◌, sum, unsigned_abs};
+ghost use Rattle.smol_geom.specs.Axes.{EachAxis, IsEven, IsWithin, on_axis};
+ghost use Rattle.smol_streams.specs.Displacement.{centred_sum, displacement, displacement_on, draws_of};
 ghost use Rattle.smol_streams.specs.Generator.{moved};
 ghost use Rattle.smol_streams.specs.Words.{word_of, number_below};
 
+use crate::chance::{WORDS_A_STEP, WORDS_AN_AXIS};
+use crate::displacement::scale;
 use rand_chacha::ChaCha8Rng;
 use rand_core::SeedableRng;
 use rand_core::utils::NextWord;
+use smol_geom::Step3;
 use std::marker::Model;
+
+// The mean of a sum of twelve 16-bit draws.
+const MEAN: i64 = 393_210;
 
 /// The random words of a seed. A word is a function of the seed, its stream and its place, so a
 /// `Streams` counts as its seed alone; the generator in it stands at the next word's place.
 #[derive(Drop)]
 pub struct Streams {
-    pub(crate) seed: u64,
-    pub(crate) generator: ChaCha8Rng,
+    seed: u64,
+    generator: ChaCha8Rng,
 }
 
 impl Model for Streams {
@@ -60,6 +68,58 @@ impl Streams {
         let high = u128::from(self.word(stream, place + 1));
         (((low + (high << 32)) * u128::from(n)) >> 64) as u64
     }
+
+    /// The displacement in step k of the molecule with this serial and a difstep of s micros, where the
+    /// first `dims` axes are in use.
+    pub fn displace(&mut self, serial: u64, k: u32, s: u32, dims: u8) -> Step3
+        ensures value { result ≡ displacement self.old serial k s dims }
+        ensures even { EachAxis (λ axis. IsEven (on_axis result.0 axis)) }
+        ensures size { IsWithin (12 * s + 2) result.0 }
+        ensures seed { self.new ≡ self.old }
+    {
+        Step3([
+            self.displace_on(serial, k, s, dims, 0),
+            self.displace_on(serial, k, s, dims, 1),
+            self.displace_on(serial, k, s, dims, 2),
+        ])
+    }
+
+    // The displacement on an axis.
+    fn displace_on(&mut self, serial: u64, k: u32, s: u32, dims: u8, axis: u8) -> i64
+        ensures value { result ≡ displacement_on self.old serial k s dims axis }
+        ensures even { IsEven result }
+        ensures size { unsigned_abs result ≤ 12 * s + 2 }
+        ensures seed { self.new ≡ self.old }
+    {
+        if axis >= dims {
+            return 0;
+        }
+        let place = WORDS_A_STEP * u128::from(k) + WORDS_AN_AXIS * u128::from(axis);
+        scale(centred_sum(&mut self.generator, serial, place), s)
+    }
+}
+
+// The sum of the twelve draws of six words, less its mean.
+fn centred_sum(generator: &mut ChaCha8Rng, stream: u64, place: u128) -> i64
+    requires { place + 6 ≤ 2 ^ 68 }
+    ensures value { result ≡ centred_sum generator.old.key stream place }
+    ensures size { unsigned_abs result ≤ 393210 }
+    ensures key { generator.new.key ≡ generator.old.key }
+{
+    bring(generator, stream, place);
+    let mut sum = 0u32;
+    for _ in 0..WORDS_AN_AXIS {
+        sum += sum_of_draws(generator.next_word());
+    }
+    i64::from(sum) - MEAN
+}
+
+// The sum of a word's two draws, its low and its high half.
+fn sum_of_draws(word: u32) -> u32
+    ensures value { result ≡ sum (draws_of word) }
+    ensures size { result ≤ 2 * 65535 }
+{
+    (word & 0xffff) + (word >> 16)
 }
 
 // Brings the generator to the place of the stream, unless it stands there. A generator that is set to

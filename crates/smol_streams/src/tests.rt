@@ -31,14 +31,13 @@ fn a_number_below_a_bound(rt: HostRuntime) {
 // Molecule 1 of seed 7 in step 1, with a difstep of one length unit: the words at places 32 to 49 of stream 1.
 #[test]
 fn a_displacement(rt: HostRuntime) {
-    let streams = Streams::of_seed(7);
-    let mut kept = streams.keep_none();
+    let mut streams = Streams::of_seed(7);
     assert_eq!(rt;
-        streams.draw(1, 1, 1_000_000, 3, &mut kept).by,
+        streams.displace(1, 1, 1_000_000, 3),
         Step3([982_238, 3_748_566, -2_029_358])
     );
     assert_eq!(rt;
-        streams.draw(1, 1, 1_000_000, 2, &mut kept).by,
+        streams.displace(1, 1, 1_000_000, 2),
         Step3([982_238, 3_748_566, 0])
     );
 }
@@ -51,20 +50,8 @@ fn what_a_molecule_draws(rt: HostRuntime) {
         by: Step3([982_238, 3_748_566, -2_029_358]),
         word: 0x4d6c_29da,
     };
-    let mut kept = streams.keep_none();
-    assert_eq!(rt; streams.draw(1, 1, 1_000_000, 3, &mut kept), drawn);
+    assert_eq!(rt; streams.draw(1, 1, 1_000_000, 3), drawn);
     assert_eq!(rt; streams.lone_axis(3, 1, 1), 1);
-}
-
-// The same, where step 0 was drawn before it and what its words gave for step 1 was kept.
-#[test]
-fn what_is_kept_is_what_is_drawn(rt: HostRuntime) {
-    let streams = Streams::of_seed(7);
-    let mut kept = streams.keep_none();
-    streams.draw(1, 0, 1_000_000, 3, &mut kept);
-    let drawn = streams.draw(1, 1, 1_000_000, 3, &mut kept);
-    assert_eq!(rt; drawn.by, Step3([982_238, 3_748_566, -2_029_358]));
-    assert_eq!(rt; drawn.word, 0x4d6c_29da);
 }
 
 // Ranks 3 and 5 with reaction 4 in step 2: places 4104 and 4105 of stream 2^63 + 3 * 2^20 + 5. Command 2 in step 3 for rank 4:

@@ -1,4 +1,4 @@
-use Rattle.std.proofs.Common.{◌≡◌, ◌+◌, ◌-◌, ◌<◌, arith, ap, ◌∙◌, Err, Ok, rules}
+use Rattle.std.proofs.Common.{◌≡◌, ◌+◌, ◌-◌, ◌<◌, arith, ap, ◌∙◌, Err, Ok}
 use Rattle.smol_meaning.specs.Run.{steps_from, steps_of}
 use Rattle.smol_commands.specs.declared.flow.Flow.TheVariants.{Stop}
 use Rattle.smol_loop.proofs.Joining.{ends_there, goes_on, last_leaves}
@@ -11,7 +11,6 @@ loop-step-init g c = record {
   ready = c.requires.ready;
   next = omega arith;
   step = c.requires.first;
-  kept = search rules;
 }
 
 pub loop-step-preserved : goal.loop-step-preserved
@@ -26,7 +25,6 @@ loop-step-preserved g c =
       ready = c.in-Ok-Go.ensures.ready.next;
       next = omega (arith, c.loop-step.invariant.next, c.in-Ok-Go.ensures.serials);
       step = c.in-Ok-Go.ensures.step (ap (λ flow. Ok flow) c.in-Ok-Go.field-0-is) ∙ ap (λ n. n + 1) c.loop-step.invariant.step;
-      kept = c.in-Ok-Go.ensures.kept;
     }
 
 pub returns-in-Ok-Stop-clause-left : goal.returns-in-Ok-Stop-clause-left

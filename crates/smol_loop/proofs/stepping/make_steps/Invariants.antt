@@ -1,11 +1,10 @@
-use Rattle.std.proofs.Common.{◌≡◌, All, ◌+◌, ◌-◌, ◌*◌, ◌≤◌}
-use Rattle.smol_streams.specs.Kept.{IsKept}
+use Rattle.std.proofs.Common.{◌≡◌, ◌+◌, ◌-◌, ◌*◌, ◌≤◌}
 use Rattle.smol_meaning.specs.Run.{steps_from, steps_of}
 use Rattle.smol_loop.specs.Parts.{IsReady}
 use Rattle.smol_loop.proofs.Joining.{Left}
 use Rattle.smol_loop.proofs.stepping.make_steps.Given as goal
 
--- the steps behind those made are left, and all that is kept is right
+-- the steps behind those made are left
 abbrev pub invariant-loop-step : goal.invariant-loop-step
 invariant-loop-step g l =
     let draft = l.run.setup.now in
@@ -17,5 +16,4 @@ invariant-loop-step g l =
       ready : IsReady draft seed (g.W.Readers.opened l.readers) l.held;
       next : l.held.state.next ≤ first.next + 272000000 * l._step;
       step : l.held.state.step ≡ l._step;
-      kept : All (IsKept seed) l.kept.items;
     }

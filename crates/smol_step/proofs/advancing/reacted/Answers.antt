@@ -43,13 +43,13 @@ pub add_newborn-requires : goal.add_newborn-requires
 add_newborn-requires g c =
     let config = c.args.setup.now in
     let events = c.deref-2.ensures.value ∙ c.in_ok-reacting.ensures.events ∙ ap (events_of c.args.setup.now c.args.turn.now.seed c.args.turn.now.k) c.deref.ensures.value in
-    let births = c.deref-5.ensures.value ∙ c.in_ok-births.ensures.births ∙ (λ i. births_of (c.config.ensures.value i) c.args.next (events i)) in
+    let births = c.deref-4.ensures.value ∙ c.in_ok-births.ensures.births ∙ (λ i. births_of (c.config.ensures.value i) c.args.next (events i)) in
     let moves = births_move config c.requires.sound c.args.turn.now.seed c.args.turn.now.k (2 ^ 57) c.args.next c.args.mols.items c.requires.placed (omega arith) in
-    subst (λ (draft : Draft). All (λ (birth : Birth). IsMoveOf draft (birth_move birth)) c.deref-5.result.now) (sym c.panels.ensures)
+    subst (λ (draft : Draft). All (λ (birth : Birth). IsMoveOf draft (birth_move birth)) c.deref-4.result.now) (sym c.panels.ensures)
     (subst (λ (births : List Birth). All (λ (birth : Birth). IsMoveOf config (birth_move birth)) births) (sym births) moves)
 
-pub returns-clause-state : goal.returns-clause-state
-returns-clause-state g c =
+pub returns : goal.returns
+returns g c =
     let config = c.args.setup.now in
     let seed = c.args.turn.now.seed in
     let k = c.args.turn.now.k in
@@ -57,7 +57,7 @@ returns-clause-state g c =
     let next = c.args.next in
     let events = c.deref-2.ensures.value ∙ c.in_ok-reacting.ensures.events ∙ ap (events_of c.args.setup.now c.args.turn.now.seed c.args.turn.now.k) c.deref.ensures.value in
     let born_all = c.in_ok-births.ensures.births ∙ (λ i. births_of (c.config.ensures.value i) next (events i)) in
-    let births = c.deref-5.ensures.value ∙ born_all in
+    let births = c.deref-4.ensures.value ∙ born_all in
     let free = c.deref-3.ensures.value ∙ c.in_ok-reacting.ensures.free
     ∙ ap (λ (mols : List Mol). map (remains config seed k (reactions_of_two config seed k mols)) mols) c.deref.ensures.value in
     let kept = c.keep_free.ensures ∙ ap (λ (free : List Bool). items_where_true free old) free ∙ picked-filter (remains config seed k (reactions_of_two config seed k old)) old in

@@ -14,12 +14,12 @@ use Rattle.smol_step.proofs.advancing.stepped.Goals as goal
 pub overflow_add-turn : goal.overflow_add-turn
 overflow_add-turn g c = let sound = c.requires.sound in omega (arith, c.requires.further, sound.steps)
 
-pub diffuse-requires-clause-placed : goal.diffuse-requires-clause-placed
-diffuse-requires-clause-placed g c _ _ =
+pub diffuse-requires : goal.diffuse-requires
+diffuse-requires g c =
     let config = c.args.setup.now in
     let sound = c.requires.sound in
     let few : c.args.state.step ≤ 4000000 = omega (arith, c.requires.further, sound.steps) in
-    subst (All (IsPlaced config (2 ^ 57))) (sym c.into_vec-mols.ensures) (mols_near config c.args.state c.requires.fits few)
+    (search, subst (All (IsPlaced config (2 ^ 57))) (sym c.into_vec-mols.ensures) (mols_near config c.args.state c.requires.fits few))
 
 pub reacted-requires-clause-turn : goal.reacted-requires-clause-turn
 reacted-requires-clause-turn g c _ _ =
@@ -51,12 +51,12 @@ reacted-requires-clause-placed g c _ _ =
     c.in_ok-reactions.ensures.moved ∙ ap (all_diffused config c.args.seed (state.step + 1)) c.into_vec-mols.ensures in
     subst (All (IsPlaced config (2 ^ 57))) (sym mols) (diffused_near config c.requires.sound c.args.seed state c.requires.fits c.requires.further)
 
-pub returns-clause-state : goal.returns-clause-state
-returns-clause-state g c =
+pub returns : goal.returns
+returns g c =
     let config = c.args.setup.now in
     let state = c.args.state in
     let mols : c.diffuse.new.mols.items ≡ all_diffused config c.args.seed (state.step + 1) state.mols =
     c.in_ok-reactions.ensures.moved ∙ ap (all_diffused config c.args.seed (state.step + 1)) c.into_vec-mols.ensures in
     subst
     (λ (mols : List Mol). IfOk c.reacted.result (λ (after : State). after ≡ reacted config c.args.seed (state.step + 1) mols state.next)) mols
-    c.reacted.ensures.state
+    c.reacted.ensures

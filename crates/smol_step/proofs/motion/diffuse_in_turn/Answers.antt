@@ -1,12 +1,10 @@
 use Rattle.std.proofs.Common.{◌≡◌, ◌<◌, ◌^◌, ◌++◌, ◌∷◌, [], ℕ, List, All, Option, Some, length, get_or, map, take, ap, sym, ◌∙◌, subst, arith}
 use Rattle.std.specs.List.{cons_option, filter_map}
 use Rattle.std.proofs.lemmas.List.{append-nil, get_or_default, length-set, take_more_set}
-use Rattle.std.proofs.lemmas.List.Elements.{All-set}
 use Rattle.std.proofs.lemmas.Option.{same_Some}
 use Rattle.smol_geom.specs.declared.place.Step3.{Step3}
 use Rattle.smol_types.specs.declared.draft.Draft.{Draft}
 use Rattle.smol_types.specs.declared.state.Mol.{Mol}
-use Rattle.smol_streams.specs.Kept.{IsKept}
 use Rattle.smol_meaning.specs.declared.way.Travelled.{Travelled}
 use Rattle.smol_meaning.specs.declared.way.Travelled.TheVariants.{At, Absorbed}
 use Rattle.smol_meaning.specs.Events.{lone_reaction, reaction_drawn}
@@ -37,8 +35,8 @@ module _ (draft : Draft) (seed k : ℕ) (mol : Mol) where
   chooses after (At place) is = ap (lone_reaction draft seed k) (same_Some _ _ is)
   chooses after (Absorbed number) is = absurd (cc)
 
-pub drawn-word-requires-clause-placed : goal.drawn-word-requires-clause-placed
-drawn-word-requires-clause-placed c =
+pub drawn-word-requires : goal.drawn-word-requires
+drawn-word-requires c =
     placed_next c.args.setup.now _ c.loop-i.mols c.args.mols.now c.loop-i.left c.loop-i.i c.requires.placed c.loop-i.invariant.moved (omega arith)
 
 pub arrived-requires-clause-species : goal.arrived-requires-clause-species
@@ -72,7 +70,6 @@ loop-i-preserved c =
     let by = c.drawn-word.ensures.by ∙ ap (λ (seed : ℕ). (diffusion draft seed k m).by) c.loop-i.invariant.seed in
     let becomes = sym (c.arrived.ensures ∙ ap (λ (draft : Draft). arrived m (way draft m.species m.place c.drawn-word.result.by)) c.panels.ensures ∙ moves draft seed k m c.drawn-word.result.by by) in
     let same = c.drawn-word.ensures.seed ∙ c.loop-i.invariant.seed in
-    let right = subst (λ (seed : ℕ). IsKept seed c.drawn-word.new.kept) c.loop-i.invariant.seed c.drawn-word.ensures.kept in
     elim c.match-arrived.branch [
       | in-Some w ↦
           let after = w.in-Some.after in
@@ -82,25 +79,21 @@ loop-i-preserved c =
           ∙ c.drawn-word.ensures.word
           ∙ ap (λ (seed : ℕ). lone_reaction draft seed k m) c.loop-i.invariant.seed
           ∙ chooses draft seed k m after (end_of_move draft (diffusion draft seed k m)) one in
-          rw (w.mols-is, w.reactions-is, w.kept-is, w.left-is) (record {
+          rw (w.mols-is, w.reactions-is, w.left-is) (record {
             moved = made_stays made now old left here m after within is one so_far;
             chosen = take_more_set c.loop-i.reactions left w.reaction.result room
                 ∙ ap (λ (last : Option ℕ). take left c.loop-i.reactions ++ last ∷ []) drawn
                 ∙ ap (λ (first : List (Option ℕ)). first ++ chosen after ∷ []) c.loop-i.invariant.chosen
                 ∙ sym (ap (map chosen) (step ∙ ap (λ (made : Option Mol). front ++ cons_option made []) one) ∙ chosen_more chosen front after);
             beside = length-set c.loop-i.reactions left w.reaction.result ∙ c.loop-i.invariant.beside;
-            kept = All-set (IsKept seed) c.loop-i.kept left c.drawn-word.new.kept right c.loop-i.invariant.kept;
-            kept_count = length-set c.loop-i.kept left c.drawn-word.new.kept ∙ c.loop-i.invariant.kept_count;
             seed = same;
           })
       | in_default w ↦
           let one = becomes ∙ w.in_default.is in
-          rw (w.mols-is, w.reactions-is, w.kept-is, w.left-is) (record {
+          rw (w.mols-is, w.reactions-is, w.left-is) (record {
             moved = made_gone made now old left here m within is one so_far;
             chosen = c.loop-i.invariant.chosen ∙ sym (ap (map chosen) (step ∙ ap (λ (made : Option Mol). front ++ cons_option made []) one ∙ append-nil front));
             beside = c.loop-i.invariant.beside;
-            kept = c.loop-i.invariant.kept;
-            kept_count = c.loop-i.invariant.kept_count;
             seed = same;
           })
     ]

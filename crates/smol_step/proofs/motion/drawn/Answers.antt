@@ -1,4 +1,4 @@
-use Rattle.std.proofs.Common.{◌≡◌, ℕ, ◌^◌, refl, ap, sym, subst, ◌∙◌, arith}
+use Rattle.std.proofs.Common.{◌≡◌, ℕ, ◌^◌, ap, sym, subst, ◌∙◌, arith}
 use Rattle.smol_geom.specs.declared.place.Step3.{Step3}
 use Rattle.smol_types.specs.declared.draft.Draft.{Draft}
 use Rattle.smol_types.specs.declared.state.Mol.{Mol}
@@ -8,7 +8,6 @@ use Rattle.smol_meaning.specs.Motion.{difstep_of, diffusion}
 use Rattle.smol_meaning.specs.Moves.{IsMove}
 use Rattle.smol_meaning.specs.Placed.{IsPlaced}
 use Rattle.smol_meaning.proofs.Diffusing.{diffusion_moves}
-use Rattle.smol_step.proofs.Still.{still}
 use Rattle.smol_step.proofs.motion.drawn.Goals as goal
 
 -- what is drawn is a move
@@ -24,23 +23,20 @@ drawn_at draft like seed k mol difstep dims by same of in_use is =
     ∙ (λ i. displacement seed mol.serial k (of i) (in_use i))
     ∙ ap (λ (draft : Draft). displacement seed mol.serial k (difstep_of draft mol.species) draft.dims) same
 
--- the displacement of a molecule that doesn't move
-still_at : (draft like : Draft) (seed k : ℕ) (mol : Mol) (difstep : ℕ) (by : Step3) → like ≡ draft → difstep ≡ difstep_of like mol.species → difstep ≡ 0
-    → by ≡ displacement seed mol.serial k 0 like.dims → by ≡ (diffusion draft seed k mol).by
-still_at draft like seed k mol difstep by same of none is =
-    drawn_at draft like seed k mol difstep like.dims by same of refl (is ∙ ap (λ (s : ℕ). displacement seed mol.serial k s like.dims) (sym none))
-
-pub returns-then-difstep-eq0-clause-by : goal.returns-then-difstep-eq0-clause-by
-returns-then-difstep-eq0-clause-by c =
-    still_at c.args.setup.now _ c.args.streams.now c.args.k c.args.m.now _ _ c.config-config.ensures.value c.difstep_of-difstep.ensures c.if-difstep-eq0.true
-    (sym (still c.args.streams.now c.args.m.now.serial c.args.k _))
-
-pub returns-then-difstep-eq0-clause-goes : goal.returns-then-difstep-eq0-clause-goes
-returns-then-difstep-eq0-clause-goes c =
-    goes_at c.args.setup.now c.config-config.ensures.sound c.args.streams.now c.args.k c.args.m.now _ (returns-then-difstep-eq0-clause-by c) c.requires.placed
-
-pub returns-clause-goes : goal.returns-clause-goes
-returns-clause-goes c =
+pub returns-then-reacts-clause-goes : goal.returns-then-reacts-clause-goes
+returns-then-reacts-clause-goes c =
     goes_at c.args.setup.now c.config-config.ensures.sound c.args.streams.now c.args.k c.args.m.now _
     (drawn_at c.args.setup.now _ c.args.streams.now c.args.k c.args.m.now _ _ _ c.config-config.ensures.value c.difstep_of-difstep.ensures c.dims.ensures.value c.draw.ensures.by)
-    c.requires.placed
+    c.requires
+
+pub returns-then-reacts-2-clause-goes : goal.returns-then-reacts-2-clause-goes
+returns-then-reacts-2-clause-goes c =
+    goes_at c.args.setup.now c.config-config.ensures.sound c.args.streams.now c.args.k c.args.m.now _
+    (drawn_at c.args.setup.now _ c.args.streams.now c.args.k c.args.m.now _ _ _ c.config-config.ensures.value c.difstep_of-difstep.ensures c.dims-2.ensures.value c.displacement-by.ensures.value)
+    c.requires
+
+pub returns-else-reacts-2-clause-goes : goal.returns-else-reacts-2-clause-goes
+returns-else-reacts-2-clause-goes c =
+    goes_at c.args.setup.now c.config-config.ensures.sound c.args.streams.now c.args.k c.args.m.now _
+    (drawn_at c.args.setup.now _ c.args.streams.now c.args.k c.args.m.now _ _ _ c.config-config.ensures.value c.difstep_of-difstep.ensures c.dims-2.ensures.value c.displacement-by.ensures.value)
+    c.requires

@@ -8,13 +8,13 @@ use Rattle.smol_confined.proofs.Pairing.{pairs_are_confined}
 use Rattle.smol_step.specs.declared.step_fault.StepFault.{StepFault}
 use Rattle.smol_step.specs.Advance.{IsAnswer}
 use Rattle.smol_step.proofs.Answered.{answer_fits, answer_holds, answer_rises, boxed, told_is_answer}
-use Rattle.smol_step.proofs.advancing.advance_keeping.Goals as goal
+use Rattle.smol_step.proofs.advancing.advance_with.Goals as goal
 
 pub returns-clause-answer : goal.returns-clause-answer
 unfolding next_state
 returns-clause-answer g c =
     subst (λ (answer : Result State StepFault). IsAnswer (next_state c.args.setup.now c.args.seed c.args.state) answer) (sym c.step_told.ensures)
-    (told_is_answer c.args.setup.now.max_mol _ _ c.stepped-made.result (c.max_mol-most.ensures.value ∙ ap (λ (draft : Draft). draft.max_mol) c.config.ensures.value) c.stepped-made.ensures.state)
+    (told_is_answer c.args.setup.now.max_mol _ _ c.stepped-made.result (c.max_mol-most.ensures.value ∙ ap (λ (draft : Draft). draft.max_mol) c.config.ensures.value) c.stepped-made.ensures)
 
 pub returns-clause-fits : goal.returns-clause-fits
 returns-clause-fits g c =

@@ -1,12 +1,12 @@
 use Rattle.std.proofs.Common.{◌≡◌, ◌+◌, ◌-◌, ◌*◌, ◌%◌, ◌^◌, ◌≤◌, sum, flat_map}
 use Rattle.smol_streams.specs.Displacement.{draws_of, words_from}
 use Rattle.smol_streams.specs.Generator.{moved}
-use Rattle.smol_streams.proofs.kept.next_sum.Given as goal
+use Rattle.smol_streams.proofs.streams.centred_sum.Given as goal
 
 abbrev pub invariant-loop : goal.invariant-loop
 invariant-loop l = record {
-  stands : l.generator ≡ moved l.initial.generator l.initial.generator.stream ((l.initial.generator.word_pos + l.counter) % 2 ^ 68);
-  so_far : l.sum ≡ sum (flat_map draws_of (words_from l.initial.generator.key l.initial.generator.stream l.initial.generator.word_pos l.counter));
+  stands : l.generator ≡ moved l.fn.generator l.stream ((l.place + l.counter) % 2 ^ 68);
+  so_far : l.sum ≡ sum (flat_map draws_of (words_from l.fn.generator.key l.stream l.place l.counter));
   small : l.sum ≤ 131070 * l.counter;
 }
 
