@@ -1,6 +1,6 @@
 -- The walks through panels and walls for one that bars.
 use Rattle.std.proofs.Common.{◌≡◌, ℕ, ◌+◌, ◌<◌, ◌≤◌, ⊎_elim, Bool, true, false, List, [], ◌∷◌, length, get_or, refl, sym, ◌∙◌, ap, subst, arith, pos}
-use Rattle.std.specs.Prelude.{All, Contains, Some, slice_get, map}
+use Rattle.std.specs.Prelude.{Contains, Some, slice_get}
 use Rattle.std.proofs.lemmas.Bool.{and_parts, both_ways, false_from_ne_true}
 use Rattle.std.proofs.lemmas.Int.{by_lt_z, ints}
 use Rattle.std.proofs.lemmas.List.{get_or-map, length-map}
@@ -51,9 +51,10 @@ module _ (draft : Draft) (species : ℕ) (a b : Place) where
       (has_of_contains (number ∷ left) n (subst (λ xs. Contains xs n) is (among n plate below at barred)))
 
   -- where none is left, none bars
-  pub none_left : (left : List ℕ) → left ≡ [] → AreAmong draft species a b left → NoneBars draft species a b 0 (length draft.panels)
-  none_left left is among = λ n plate from below at.
-      false_from_ne_true (bars species a b plate) (λ barred. has_of_contains [] n (subst (λ xs. Contains xs n) is (among n plate below at barred)))
+  pub none_left : (first : ℕ) (left : List ℕ) → left ≡ [] → first ≤ length draft.panels → AreAmong draft species a b left → NoneBars draft species a b 0 first
+  none_left first left is some among = λ n plate from below at.
+      false_from_ne_true (bars species a b plate)
+      (λ barred. has_of_contains [] n (subst (λ xs. Contains xs n) is (among n plate (omega (arith, below, some)) at barred)))
 
   -- one that bars is enough
   pub one_bars : (number : ℕ) (t : Bool) → number < length draft.panels + length draft.walls
@@ -63,9 +64,9 @@ module _ (draft : Draft) (species : ℕ) (a b : Place) where
       list_any_at (bars species a b) (plates_of draft) number nowhere within
       (sym (says (get_or (plates_of draft) number nowhere) (slice_get-get_or (plates_of draft) number nowhere within)) ∙ met)
 
-  pub one_wall_more : (first number : ℕ) (t : Bool) → NoneBars draft species a b first number
+  pub one_more : (first number : ℕ) (t : Bool) → NoneBars draft species a b first number
       → ((plate : Plate) → slice_get (plates_of draft) number ≡ Some plate → t ≡ bars species a b plate) → t ≡ false → NoneBars draft species a b first (number + 1)
-  one_wall_more first number t none says not = λ n plate from below at.
+  one_more first number t none says not = λ n plate from below at.
       false_from_ne_true (bars species a b plate) (λ barred.
       let here : n ≡ number = omega (arith, below, earlier n plate from at barred) in
       both_ways _ not (says plate (subst (λ k. slice_get (plates_of draft) k ≡ Some plate) here at) ∙ barred))
@@ -73,14 +74,14 @@ module _ (draft : Draft) (species : ℕ) (a b : Place) where
       earlier : (n : ℕ) (plate : Plate) → first ≤ n → slice_get (plates_of draft) n ≡ Some plate → bars species a b plate ≡ true → number ≤ n
       earlier n plate from at barred = by_lt n number (λ below. absurd (both_ways _ (none n plate from below at) barred)) (λ past. past)
 
-  -- the walls decide where no panel bars
-  pub walls_decide : (t : Bool) → NoneBars draft species a b 0 (length draft.panels) → (t ≡ true → is_barred draft species a b ≡ true)
-      → (t ≡ false → NoneBars draft species a b (length draft.panels) (length draft.panels + length draft.walls)) → t ≡ is_barred draft species a b
-  walls_decide true panels barred free = sym (barred refl)
-  walls_decide false panels barred free =
+  -- those from a number on decide where none before it bars
+  pub rest_decides : (first : ℕ) (t : Bool) → first ≤ length draft.panels → NoneBars draft species a b 0 first → (t ≡ true → is_barred draft species a b ≡ true)
+      → (t ≡ false → NoneBars draft species a b first (length draft.panels + length draft.walls)) → t ≡ is_barred draft species a b
+  rest_decides first true some before barred free = sym (barred refl)
+  rest_decides first false some before barred free =
       sym (list_any_none (bars species a b) (plates_of draft) (All-from_get_or (λ plate. bars species a b plate ≡ false) (plates_of draft) nowhere
       (λ n within.
       let at = slice_get-get_or (plates_of draft) n nowhere within in
-      by_lt n (length draft.panels)
-      (λ below. panels n _ (omega arith) below at)
+      by_lt n first
+      (λ below. before n _ (omega arith) below at)
       (λ past. free refl n _ past (subst (λ k. n < k) (plate_count draft) within) at))))

@@ -9,10 +9,7 @@ use Rattle.smol_geom.specs.declared.rect.Rect.{Rect}
 use Rattle.smol_types.specs.declared.draft.Draft.{Draft}
 use Rattle.smol_types.specs.declared.surface.Panel.{Panel}
 use Rattle.smol_types.specs.Sound.{IsSound}
-use Rattle.smol_cells.specs.declared.boxes.Boxes.{Boxes}
 use Rattle.smol_cells.specs.declared.cells.Cells.{Cells}
-use Rattle.smol_cells.specs.declared.grid.Grid.{Grid}
-use Rattle.smol_cells.specs.Kept.{AreOf}
 use Rattle.smol_cells.specs.Meeting.{MeetsBetween, rect_at}
 use Rattle.smol_cells.specs.Numbered.{boxes_of_cuboid, boxes_of_rect}
 use Rattle.smol_cells.specs.Ranges.{near_of}

@@ -12,7 +12,7 @@ use smol_meaning::{Response, Sheet};
 use smol_types::Mol;
 
 impl<'a> Panels<'a> {
-    ghost use Rattle.std.specs.Prelude.{◌≡◌, ◌<◌, ◌+◌, ◌^◌, Some, true, false, length, slice_get};
+    ghost use Rattle.std.specs.Prelude.{◌≡◌, ◌<◌, ◌≤◌, ◌+◌, ◌^◌, Some, true, false, length, slice_get};
     ghost use Rattle.smol_meaning.specs.Plates.{Plate};
     ghost use Rattle.smol_meaning.specs.Seen.{plates_of};
     ghost use Rattle.smol_meaning.specs.Sight.{are_hidden, bars, is_barred};
@@ -40,20 +40,26 @@ impl<'a> Panels<'a> {
         requires b { IsPlaceWithin (2 ^ 58) b.now }
         ensures { result ≡ is_barred self.now species a.now b.now }
     {
-        if self.is_barred_by_panel(species, a, b) {
+        let first = self.first_in_turn();
+        if self.is_barred_before(first, species, a, b) {
             return true;
         }
-        self.is_barred_by_wall(species, a, b)
+        self.is_barred_from(first, species, a, b)
     }
 
-    // Whether some panel doesn't let it through. Those that the line meets are near it.
-    fn is_barred_by_panel(&self, species: u16, a: &Place, b: &Place) -> bool
+    // Whether some panel doesn't let it through, or else none before the first that is looked at in turn. Those that the line meets are
+    // near it.
+    fn is_barred_before(&self, first: usize, species: u16, a: &Place, b: &Place) -> bool
+        requires first { first ≤ length self.now.panels }
         requires species { species < length self.now.species }
         requires a { IsPlaceWithin (2 ^ 58) a.now }
         requires b { IsPlaceWithin (2 ^ 58) b.now }
         ensures barred { result ≡ true → is_barred self.now species a.now b.now ≡ true }
-        ensures free { result ≡ false → NoneBars self.now species a.now b.now 0 (length self.now.panels) }
+        ensures free { result ≡ false → NoneBars self.now species a.now b.now 0 first }
     {
+        if first == 0 {
+            return false;
+        }
         for number in self.touching(&stretch(a, b)) {
             if self.bars_at(number, species, a, b) {
                 return true;
@@ -62,16 +68,15 @@ impl<'a> Panels<'a> {
         false
     }
 
-    // Whether some wall doesn't let it through.
-    fn is_barred_by_wall(&self, species: u16, a: &Place, b: &Place) -> bool
+    // Whether some panel or wall from this number on doesn't let it through.
+    fn is_barred_from(&self, first: usize, species: u16, a: &Place, b: &Place) -> bool
         requires species { species < length self.now.species }
         requires a { IsPlaceWithin (2 ^ 58) a.now }
         requires b { IsPlaceWithin (2 ^ 58) b.now }
         ensures barred { result ≡ true → is_barred self.now species a.now b.now ≡ true }
-        ensures free { result ≡ false
-            → NoneBars self.now species a.now b.now (length self.now.panels) (length self.now.panels + length self.now.walls) }
+        ensures free { result ≡ false → NoneBars self.now species a.now b.now first (length self.now.panels + length self.now.walls) }
     {
-        for number in self.config().panels().len()..self.sheets().len() {
+        for number in first..self.sheets().len() {
             if self.bars_at(number, species, a, b) {
                 return true;
             }

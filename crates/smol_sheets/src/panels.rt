@@ -14,6 +14,9 @@ use smol_types::{Config, Panel, Wall};
 use std::alloc::{AllocError, Global};
 use std::marker::Model;
 
+// So many panels are sooner looked at in turn than found by boxes.
+const FEW: usize = 16;
+
 /// The panels and walls of a configuration, ready to be looked through. Contracts see them as the configuration's draft.
 #[derive(Drop)]
 pub struct Panels<'a> {
@@ -44,7 +47,7 @@ impl<'a> Model for Panels<'a> {
 }
 
 impl<'a> Panels<'a> {
-    ghost use Rattle.std.specs.Prelude.{◌≡◌, ℕ, ◌^◌, ◌<◌, ◌+◌, All, Contains, IfOk, Some, length, map, slice_get};
+    ghost use Rattle.std.specs.Prelude.{◌≡◌, ℕ, ◌^◌, ◌<◌, ◌≤◌, ◌+◌, All, Contains, IfOk, Some, length, map, slice_get};
     ghost use Rattle.smol_geom.specs.Axes.{IsWithin};
     ghost use Rattle.smol_types.specs.Sound.{IsSound};
     ghost use Rattle.smol_cells.specs.Numbered.{IsFilled};
@@ -91,6 +94,16 @@ impl<'a> Panels<'a> {
         ensures { result.now ≡ map stand_of (sheets_of self.now) }
     {
         self.stands.as_slice()
+    }
+
+    /// The number from which on panels and walls are best looked at in turn, and before which panels are best looked for by `touching`.
+    /// Whichever it is, the same is found. It is 0 where there are few panels.
+    pub fn first_in_turn(&self) -> usize
+        ensures count { result ≤ length self.now.panels }
+        ensures sound { IsSound self.now }
+    {
+        let count = self.config.panels().len();
+        if count <= FEW { 0 } else { count }
     }
 
     /// The numbers of panels near a cuboid, in ticks: those of all that it meets, and of others. They come in no order and with repeats.

@@ -66,10 +66,11 @@ module _ (draft : Draft) (n : ℕ) (stands : List Stand) (d : Stand) (sound : Is
       (ap (λ (s : Stand). s.axis) stand_is) (ap (λ (s : Stand). s.plane) stand_is) says out
 
 -- at first each panel that is met is among those near the span
-pub near_left : (draft : Draft) (leg : Leg) (span : Cuboid) (left : List ℕ) → IsSpan leg span
+pub near_left : (draft : Draft) (leg : Leg) (span : Cuboid) (first : ℕ) (left : List ℕ) → first ≤ length draft.panels → IsSpan leg span
     → ((number : ℕ) (sheet : Sheet) → number < length draft.panels → slice_get (sheets_of draft) number ≡ Some sheet → IsReached span sheet → Contains left number)
-    → (m : Moment) → IsMoment leg.from leg.by m → AreLeft draft leg (length draft.panels) left m
-near_left draft leg span left is_span near m is = λ n below met.
+    → (m : Moment) → IsMoment leg.from leg.by m → AreLeft draft leg first left m
+near_left draft leg span first left some is_span near m is = λ n before met.
+    let below : n < length draft.panels = omega (arith, before, some) in
     let sheet = (plate_at draft n).sheet in
     let within : n < length (sheets_of draft) = omega (arith, sheet_count draft, below) in
     near n sheet below

@@ -1,5 +1,5 @@
 //! What decides where panels and walls are met.
-ghost use Rattle.std.specs.Prelude.{◌≡◌, ℕ, ◌+◌, ◌<◌, ◌⊎◌, [], ◌∷◌, List, length};
+ghost use Rattle.std.specs.Prelude.{◌≡◌, ℕ, ◌+◌, ◌<◌, ◌≤◌, ◌⊎◌, [], ◌∷◌, List, length};
 ghost use Rattle.smol_geom.specs.Moments.{IsMoment};
 ghost use Rattle.smol_types.specs.Sound.{IsSound};
 ghost use Rattle.smol_meaning.specs.Plates.{precedence};
@@ -30,20 +30,21 @@ pub fn decision(panels: &Panels, leg: &Leg, moment: &Moment, species: u16) -> Ef
     ensures known { result.species < length panels.now.species }
     ensures sound { IsSound panels.now }
 {
-    let config = panels.config();
-    let mut best = best_panel(panels, leg, moment, species);
-    for number in config.panels().len()..panels.sheets().len() {
+    let first = panels.first_in_turn();
+    let mut best = best_before(panels, first, leg, moment, species);
+    for number in first..panels.sheets().len() {
         best = better(panels, number, leg, moment, species, best);
     }
     best.effect
 }
 
-// The best effect of panels. Each panel that is met is near the leg's span.
-fn best_panel(panels: &Panels, leg: &Leg, moment: &Moment, species: u16) -> Best
+// The best effect of panels before the first that is looked at in turn. Each panel that is met is near the leg's span.
+fn best_before(panels: &Panels, first: usize, leg: &Leg, moment: &Moment, species: u16) -> Best
+    requires first { first ≤ length panels.now.panels }
     requires leg { IsLeg leg.now }
     requires moment { IsMoment leg.now.from leg.now.by moment.now }
     requires species { species < length panels.now.species }
-    ensures { IsBestBut panels.now leg.now moment.now species (length panels.now.panels) [] result }
+    ensures { IsBestBut panels.now leg.now moment.now species first [] result }
 {
     let mut best = Best {
         number: panels.sheets().len(),
@@ -52,6 +53,9 @@ fn best_panel(panels: &Panels, leg: &Leg, moment: &Moment, species: u16) -> Best
             species,
         },
     };
+    if first == 0 {
+        return best;
+    }
     for number in panels.touching(&span_of(leg)) {
         best = better(panels, number, leg, moment, species, best);
     }

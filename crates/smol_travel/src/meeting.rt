@@ -24,14 +24,14 @@ pub fn next_meeting(panels: &Panels, leg: &Leg, last: &Moment) -> Option<Moment>
     ensures next { IsNext (sheets_of panels.now) leg.now last.now result }
     ensures sound { IsSound panels.now }
 {
-    let config = panels.config();
+    let first = panels.first_in_turn();
     // A molecule that stands still meets nothing, however many panels and walls there are.
     if is_still(&leg.by) {
         return None;
     }
     let span = span_of(leg);
-    let mut next = next_panel(panels, &span, leg, last);
-    for number in config.panels().len()..panels.sheets().len() {
+    let mut next = next_before(panels, first, &span, leg, last);
+    for number in first..panels.sheets().len() {
         if is_within(panels, number, &span) {
             next = sooner(panels, number, leg, last, next);
         }
@@ -39,13 +39,21 @@ pub fn next_meeting(panels: &Panels, leg: &Leg, last: &Moment) -> Option<Moment>
     next
 }
 
-// The first meeting with a panel. Each panel that is met is near the span.
-fn next_panel(panels: &Panels, span: &Cuboid, leg: &Leg, last: &Moment) -> Option<Moment>
+// The first meeting with a panel before the first that is looked at in turn. Each panel that is met is near the span.
+fn next_before(
+    panels: &Panels,
+    first: usize,
+    span: &Cuboid,
+    leg: &Leg,
+    last: &Moment,
+) -> Option<Moment>
+    requires first { first ≤ length panels.now.panels }
+    requires sound { IsSound panels.now }
     requires span { IsSpan leg.now span.now }
     requires leg { IsLeg leg.now }
-    ensures { IsNextBut panels.now leg.now last.now (length panels.now.panels) [] result }
+    ensures { IsNextBut panels.now leg.now last.now first [] result }
 {
-    if panels.config().panels().is_empty() {
+    if first == 0 {
         return None;
     }
     let mut next = None;

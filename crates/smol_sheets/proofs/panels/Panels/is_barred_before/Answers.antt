@@ -1,10 +1,10 @@
-use Rattle.std.proofs.Common.{◌≡◌, ℕ, ◌<◌, ◌∷◌, List, length, ap, arith, refl, subst, sym}
+use Rattle.std.proofs.Common.{ℕ, ◌<◌, length, ap, arith, subst, sym}
 use Rattle.std.specs.Prelude.{All}
 use Rattle.std.proofs.lemmas.List.Elements.{All-head, All-tail}
 use Rattle.smol_cells.specs.TouchingLeft.{touching_left}
 use Rattle.smol_sheets.specs.Sheets.{AreAmong}
 use Rattle.smol_sheets.proofs.Barring.{all_among, none_left, one_bars, one_less}
-use Rattle.smol_sheets.proofs.panels.Panels.is_barred_by_panel.Goals as goal
+use Rattle.smol_sheets.proofs.panels.Panels.is_barred_before.Goals as goal
 
 pub loop-number-init : goal.loop-number-init
 loop-number-init c =
@@ -43,5 +43,5 @@ loop-number-preserved c =
 
 pub returns-clause-free : goal.returns-clause-free
 returns-clause-free c = λ _.
-    none_left c.args.self.now c.args.species c.args.a.now c.args.b.now (touching_left c.loop-number.number-iterator) c.in-None.ensures.steps.0
-    c.loop-number.invariant.among
+    none_left c.args.self.now c.args.species c.args.a.now c.args.b.now c.args.first (touching_left c.loop-number.number-iterator) c.in-None.ensures.steps.0
+    c.requires.first c.loop-number.invariant.among

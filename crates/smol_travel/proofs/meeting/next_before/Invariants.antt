@@ -2,11 +2,11 @@ use Rattle.std.proofs.Common.{ℕ, ◌<◌, length}
 use Rattle.std.specs.Prelude.{All}
 use Rattle.smol_cells.specs.TouchingLeft.{touching_left}
 use Rattle.smol_travel.specs.Looked.{IsNextBut}
-use Rattle.smol_travel.proofs.meeting.next_panel.Given as goal
+use Rattle.smol_travel.proofs.meeting.next_before.Given as goal
 
 -- the next meeting among the panels that are not left to be looked at
 abbrev pub invariant-loop-number : goal.invariant-loop-number
 invariant-loop-number l = record {
   known : All (λ (number : ℕ). number < length l.panels.panels) (touching_left l.number-iterator);
-  next : IsNextBut l.panels l.leg l.last (length l.panels.panels) (touching_left l.number-iterator) l.next;
+  next : IsNextBut l.panels l.leg l.last l.first (touching_left l.number-iterator) l.next;
 }

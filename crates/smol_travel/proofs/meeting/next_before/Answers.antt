@@ -5,7 +5,7 @@ use Rattle.smol_cells.specs.TouchingLeft.{touching_left}
 use Rattle.smol_travel.specs.Looked.{IsNextBut}
 use Rattle.smol_travel.proofs.Looking.{near_left, next_first, next_same}
 use Rattle.smol_travel.proofs.Span.{span_filled, span_small}
-use Rattle.smol_travel.proofs.meeting.next_panel.Goals as goal
+use Rattle.smol_travel.proofs.meeting.next_before.Goals as goal
 
 pub touching-number-items-requires : goal.touching-number-items-requires
 touching-number-items-requires c =
@@ -18,9 +18,9 @@ loop-number-init c =
     let left = ap touching_left c.into_iter-number-iterator.ensures.into_iter_gives in
     record {
       known = subst (All (λ (number : ℕ). number < length draft.panels)) (sym left) c.touching-number-items.ensures.known;
-      next = subst (λ (xs : List ℕ). IsNextBut draft c.args.leg.now c.args.last.now (length draft.panels) xs None) (sym left)
-          (next_first draft c.args.leg.now c.args.last.now (length draft.panels) (touching_left c.touching-number-items.result)
-          (near_left draft c.args.leg.now c.args.span.now (touching_left c.touching-number-items.result) c.requires.span
+      next = subst (λ (xs : List ℕ). IsNextBut draft c.args.leg.now c.args.last.now c.args.first xs None) (sym left)
+          (next_first draft c.args.leg.now c.args.last.now c.args.first (touching_left c.touching-number-items.result)
+          (near_left draft c.args.leg.now c.args.span.now c.args.first (touching_left c.touching-number-items.result) c.requires.first c.requires.span
           c.touching-number-items.ensures.near));
     }
 
@@ -44,8 +44,8 @@ loop-number-preserved-then-is_within c =
     record {
       known = All-tail (λ (number : ℕ). number < length draft.panels) c.in-Some.number _
           (subst (All (λ (number : ℕ). number < length draft.panels)) c.in-Some.ensures.steps c.loop-number.invariant.known);
-      next = c.sooner-next.ensures (length draft.panels) (touching_left c.next.new.self)
-          (subst (λ (xs : List ℕ). IsNextBut draft c.args.leg.now c.args.last.now (length draft.panels) xs c.loop-number.next)
+      next = c.sooner-next.ensures c.args.first (touching_left c.next.new.self)
+          (subst (λ (xs : List ℕ). IsNextBut draft c.args.leg.now c.args.last.now c.args.first xs c.loop-number.next)
           c.in-Some.ensures.steps c.loop-number.invariant.next);
     }
 
@@ -55,8 +55,8 @@ loop-number-preserved c =
     record {
       known = All-tail (λ (number : ℕ). number < length draft.panels) c.in-Some.number _
           (subst (All (λ (number : ℕ). number < length draft.panels)) c.in-Some.ensures.steps c.loop-number.invariant.known);
-      next = next_same draft c.args.leg.now c.args.last.now (length draft.panels) c.in-Some.number (touching_left c.next.new.self) c.loop-number.next
-          (subst (λ (xs : List ℕ). IsNextBut draft c.args.leg.now c.args.last.now (length draft.panels) xs c.loop-number.next)
+      next = next_same draft c.args.leg.now c.args.last.now c.args.first c.in-Some.number (touching_left c.next.new.self) c.loop-number.next
+          (subst (λ (xs : List ℕ). IsNextBut draft c.args.leg.now c.args.last.now c.args.first xs c.loop-number.next)
           c.in-Some.ensures.steps c.loop-number.invariant.next)
           (λ m h. c.is_within.ensures c.args.leg.now c.requires.leg c.requires.span c.if-is_within.false m h.moment);
     }
@@ -64,5 +64,5 @@ loop-number-preserved c =
 pub returns : goal.returns
 returns c =
     let draft = c.args.panels.now in
-    subst (λ (xs : List ℕ). IsNextBut draft c.args.leg.now c.args.last.now (length draft.panels) xs c.loop-number.next)
+    subst (λ (xs : List ℕ). IsNextBut draft c.args.leg.now c.args.last.now c.args.first xs c.loop-number.next)
     c.in-None.ensures.steps.0 c.loop-number.invariant.next

@@ -1,6 +1,6 @@
 use Rattle.std.proofs.Common.{arith}
 use Rattle.smol_sheets.proofs.Barring.{one_bars}
-use Rattle.smol_sheets.proofs.panels.Panels.is_barred_by_wall.Goals as goal
+use Rattle.smol_sheets.proofs.panels.Panels.is_barred_from.Goals as goal
 
 pub returns-then-bars_at-clause-barred : goal.returns-then-bars_at-clause-barred
 returns-then-bars_at-clause-barred c = λ _.

@@ -2,7 +2,7 @@ use Rattle.std.proofs.Common.{ℕ, ◌<◌, length}
 use Rattle.std.specs.Prelude.{All}
 use Rattle.smol_cells.specs.TouchingLeft.{touching_left}
 use Rattle.smol_sheets.specs.Sheets.{AreAmong}
-use Rattle.smol_sheets.proofs.panels.Panels.is_barred_by_panel.Given as goal
+use Rattle.smol_sheets.proofs.panels.Panels.is_barred_before.Given as goal
 
 -- each panel that bars is among those not yet looked at
 abbrev pub invariant-loop-number : goal.invariant-loop-number
