@@ -22,7 +22,7 @@ use Rattle.smol_blocks.specs.Panel.{Named, panel_in}
 
 -- what a line of the block says
 pub data SurfaceSaid : Type 0 where
-  -- what faces do to species
+  -- what faces do to species, and what they make of them
   acts : Acting → SurfaceSaid
   -- that there is this panel
   shows : Named → SurfaceSaid
@@ -72,6 +72,14 @@ acting_on one species (acts acting ∷ before) =
 acting_on one species (shows panel ∷ before) = acting_on one species before
 acting_on one species (leads leading ∷ before) = acting_on one species before
 
+-- what a face makes of a species on which it acts, by the same line, if that says it
+abbrev pub changing_on : Face → ℕ → List SurfaceSaid → Option ℕ
+changing_on one species [] = None
+changing_on one species (acts acting ∷ before) =
+    if means_face acting.faces one && is_chosen species acting.who then acting.new else changing_on one species before
+changing_on one species (shows panel ∷ before) = changing_on one species before
+changing_on one species (leads leading ∷ before) = changing_on one species before
+
 abbrev pub same_face : Face → Face → Bool
 same_face face.Front face.Front = true
 same_face face.Front face.Back = false
@@ -104,7 +112,16 @@ abbrev pub actions_from : Face → ℕ → List (List ℕ) → List SurfaceSaid 
 actions_from one number [] before = []
 actions_from one number (name ∷ names) before = acting_on one number before ∷ actions_from one (number + 1) names before
 
+-- what it makes of each of them
+abbrev pub changes_from : Face → ℕ → List (List ℕ) → List SurfaceSaid → List (Option ℕ)
+changes_from one number [] before = []
+changes_from one number (name ∷ names) before = changing_on one number before ∷ changes_from one (number + 1) names before
+
 -- the surface of a block
 unfoldable pub surface_of : Known → List SurfaceSaid → TheSurface
-surface_of known before =
-    record { front = actions_from face.Front 0 known.species before; back = actions_from face.Back 0 known.species before }
+surface_of known before = record {
+  front = actions_from face.Front 0 known.species before;
+  back = actions_from face.Back 0 known.species before;
+  front_new = changes_from face.Front 0 known.species before;
+  back_new = changes_from face.Back 0 known.species before;
+}

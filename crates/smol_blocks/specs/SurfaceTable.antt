@@ -7,11 +7,12 @@ use Rattle.smol_types.specs.declared.surface.Face.{Face}
 use Rattle.smol_types.specs.declared.surface.Face.TheVariants.{Front, Back}
 use Rattle.smol_line.specs.declared.refusal.Refusal.{Refusal}
 use Rattle.smol_line.specs.LookingBack.{nearer, Reads as ReadsLine}
+use Rattle.smol_blocks.specs.declared.action_table.FaceTable.{FaceTable}
 use Rattle.smol_blocks.specs.declared.jump.Leading.{Leading}
 use Rattle.smol_blocks.specs.declared.panel_table.PanelTable.{PanelTable}
 use Rattle.smol_blocks.specs.declared.surface_table.SurfaceTable.{SurfaceTable}
 use Rattle.smol_blocks.specs.Panel.{Named}
-use Rattle.smol_blocks.specs.Surface.{SurfaceSaid, Known, panel_names_of, rects_of, sides_of, acting_on, led_by, led_to}
+use Rattle.smol_blocks.specs.Surface.{SurfaceSaid, Known, panel_names_of, rects_of, sides_of, acting_on, changing_on, led_by, led_to}
 
 -- jumps lead to panels of these, if anywhere
 abbrev pub LeadWithin : ℕ → List (Option (ℕ × Face)) → Type 0
@@ -49,8 +50,10 @@ pub record Holds (table : SurfaceTable) (before : List SurfaceSaid) : Type 0 whe
   pub names : table.panels.names ≡ panel_names_of before
   pub rects : table.panels.rects.items ≡ rects_of before
   pub sides : table.panels.sides.items ≡ sides_of before
-  pub front : (species : ℕ) → slice_index_or table.actions.front.items species Transmit ≡ acting_on Front species before
-  pub back : (species : ℕ) → slice_index_or table.actions.back.items species Transmit ≡ acting_on Back species before
+  pub front : (species : ℕ) → slice_index_or table.actions.front.actions.items species Transmit ≡ acting_on Front species before
+  pub back : (species : ℕ) → slice_index_or table.actions.back.actions.items species Transmit ≡ acting_on Back species before
+  pub front_new : (species : ℕ) → slice_index_or table.actions.front.changes.items species None ≡ changing_on Front species before
+  pub back_new : (species : ℕ) → slice_index_or table.actions.back.changes.items species None ≡ changing_on Back species before
   pub front_to : (panel : ℕ) → slice_index_or table.panels.front_to.items panel None ≡ led_to panel Front before
   pub back_to : (panel : ℕ) → slice_index_or table.panels.back_to.items panel None ≡ led_to panel Back before
 
@@ -63,8 +66,13 @@ Reads rule line old new result = ReadsLine Holds (λ before. rule before line) o
 abbrev pub known_of : ℕ → List (List ℕ) → ℕ → Known
 known_of dims species others = record { dims = dims; species = species; others = others }
 
--- a table has an entry for each panel and for each of so many species
+-- a face has an entry for what it does to each of so many species, and one for what it makes of it
+pub record IsFaceReady (table : FaceTable) (species : ℕ) : Type 0 where
+  pub actions : length table.actions.items ≡ species
+  pub changes : length table.changes.items ≡ species
+
+-- a table has an entry for each panel, and its faces for each of so many species
 pub record IsReady (table : SurfaceTable) (species : ℕ) : Type 0 where
   pub panels : ArePaired table.panels
-  pub front : length table.actions.front.items ≡ species
-  pub back : length table.actions.back.items ≡ species
+  pub front : IsFaceReady table.actions.front species
+  pub back : IsFaceReady table.actions.back species

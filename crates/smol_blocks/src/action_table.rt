@@ -1,5 +1,5 @@
 //! What the faces of a surface's panels do, by the lines of its block so far.
-ghost use Rattle.std.specs.Prelude.{◌≡◌, ◌≤◌, ◌&&◌, ℕ, length, nat_le, nat_lt, slice_index_or, IfOk, if◌then◌else◌};
+ghost use Rattle.std.specs.Prelude.{◌≡◌, ◌≤◌, ◌&&◌, ℕ, length, nat_le, nat_lt, slice_index_or, IfOk, None, if◌then◌else◌};
 ghost use Rattle.smol_types.specs.declared.surface.Action.TheVariants.{Transmit};
 
 use crate::action::Acting;
@@ -8,22 +8,62 @@ use smol_line::Chosen;
 use smol_types::Action;
 use std::alloc::{AllocError, Global};
 
-/// What the front and the back do to each species.
+/// What a face does to each species, and what it makes of it.
 #[derive(Drop)]
-pub struct ActionTable {
-    pub front: Vec<Action>,
-    pub back: Vec<Action>,
+pub struct FaceTable {
+    pub actions: Vec<Action>,
+    pub changes: Vec<Option<u16>>,
 }
 
-// Lets the chosen species meet this action, and the others what they met before.
-fn set_actions(actions: &mut [Action], chosen: Chosen, action: Action)
+/// What the front and the back do.
+#[derive(Drop)]
+pub struct ActionTable {
+    pub front: FaceTable,
+    pub back: FaceTable,
+}
+
+// Gives the chosen entries this value, and leaves the others as they are.
+fn set_chosen<T: Copy>(entries: &mut [T], chosen: Chosen, value: T)
     requires ordered { chosen.first ≤ chosen.end }
-    requires within { chosen.end ≤ length actions.old }
-    ensures { (species : ℕ) → slice_index_or actions.new species Transmit
-        ≡ (if nat_le chosen.first species && nat_lt species chosen.end then action else slice_index_or actions.old species Transmit) }
+    requires within { chosen.end ≤ length entries.old }
+    ensures { (number : ℕ) (other : T) → slice_index_or entries.new number other
+        ≡ (if nat_le chosen.first number && nat_lt number chosen.end then value else slice_index_or entries.old number other) }
 {
     for i in chosen.first..chosen.end {
-        actions[i] = action;
+        entries[i] = value;
+    }
+}
+
+impl FaceTable {
+    ghost use Rattle.smol_line.specs.SpeciesWord.{is_chosen};
+    ghost use Rattle.smol_blocks.specs.SurfaceTable.{IsFaceReady};
+
+    /// The face lets each of this many species through, as it is.
+    pub fn new(alloc: Global, species: usize) -> Result<FaceTable, AllocError>
+        ensures actions { IfOk result (λ table. (number : ℕ) → slice_index_or table.actions.items number Transmit ≡ Transmit) }
+        ensures changes { IfOk result (λ table. (number : ℕ) → slice_index_or table.changes.items number None ≡ None) }
+        ensures ready { IfOk result (λ table. IsFaceReady table species) }
+    {
+        Ok(FaceTable {
+            actions: vec![in alloc; Action::Transmit; species]?,
+            changes: vec![in alloc; None; species]?,
+        })
+    }
+
+    /// Lets the face do to species what a line says, and make of them what it says.
+    pub fn set(&mut self, acting: Acting)
+        requires ordered { acting.who.first ≤ acting.who.end }
+        requires actions { acting.who.end ≤ length self.old.actions.items }
+        requires changes { acting.who.end ≤ length self.old.changes.items }
+        ensures actions { (species : ℕ) → slice_index_or self.new.actions.items species Transmit
+            ≡ (if is_chosen species acting.who then acting.action else slice_index_or self.old.actions.items species Transmit) }
+        ensures changes { (species : ℕ) → slice_index_or self.new.changes.items species None
+            ≡ (if is_chosen species acting.who then acting.new else slice_index_or self.old.changes.items species None) }
+        ensures action_count { length self.new.actions.items ≡ length self.old.actions.items }
+        ensures change_count { length self.new.changes.items ≡ length self.old.changes.items }
+    {
+        set_chosen(self.actions.as_mut_slice(), acting.who, acting.action);
+        set_chosen(self.changes.as_mut_slice(), acting.who, acting.new);
     }
 }
 
@@ -31,40 +71,28 @@ impl ActionTable {
     ghost use Rattle.smol_types.specs.declared.surface.Face.TheVariants.{Front, Back};
     ghost use Rattle.smol_line.specs.SpeciesWord.{is_chosen};
     ghost use Rattle.smol_blocks.specs.Surface.{means_face};
+    ghost use Rattle.smol_blocks.specs.SurfaceTable.{IsFaceReady};
 
     /// Both faces let each of this many species through.
     pub fn new(alloc: Global, species: usize) -> Result<ActionTable, AllocError>
-        ensures front { IfOk result (λ table. (number : ℕ) → slice_index_or table.front.items number Transmit ≡ Transmit) }
-        ensures back { IfOk result (λ table. (number : ℕ) → slice_index_or table.back.items number Transmit ≡ Transmit) }
-        ensures front_count { IfOk result (λ table. length table.front.items ≡ species) }
-        ensures back_count { IfOk result (λ table. length table.back.items ≡ species) }
+        ensures front { IfOk result (λ table. IsFaceReady table.front species) }
+        ensures back { IfOk result (λ table. IsFaceReady table.back species) }
     {
         Ok(ActionTable {
-            front: vec![in alloc; Action::Transmit; species]?,
-            back: vec![in alloc; Action::Transmit; species]?,
+            front: FaceTable::new(alloc, species)?,
+            back: FaceTable::new(alloc, species)?,
         })
     }
 
     /// Lets faces do to species what a line says.
     pub fn set(&mut self, acting: Acting)
-        requires ordered { acting.who.first ≤ acting.who.end }
-        requires front { acting.who.end ≤ length self.old.front.items }
-        requires back { acting.who.end ≤ length self.old.back.items }
-        ensures front { (species : ℕ) → slice_index_or self.new.front.items species Transmit
-            ≡ (if means_face acting.faces Front && is_chosen species acting.who then acting.action
-            else slice_index_or self.old.front.items species Transmit) }
-        ensures back { (species : ℕ) → slice_index_or self.new.back.items species Transmit
-            ≡ (if means_face acting.faces Back && is_chosen species acting.who then acting.action
-            else slice_index_or self.old.back.items species Transmit) }
-        ensures front_count { length self.new.front.items ≡ length self.old.front.items }
-        ensures back_count { length self.new.back.items ≡ length self.old.back.items }
     {
         match acting.faces {
-            Faces::Front => set_actions(self.front.as_mut_slice(), acting.who, acting.action),
-            Faces::Back => set_actions(self.back.as_mut_slice(), acting.who, acting.action),
+            Faces::Front => self.front.set(acting),
+            Faces::Back => self.back.set(acting),
             Faces::Both => {
-                set_actions(self.front.as_mut_slice(), acting.who, acting.action);
-                set_actions(self.back.as_mut_slice(), acting.who, acting.action);
+                self.front.set(acting);
+                self.back.set(acting);
             }
         }
     }

@@ -48,10 +48,17 @@ pub fn panels_of(
 
 /// The surface whose faces do this.
 pub fn surface_of(actions: ActionTable) -> Surface
-    ensures { result ≡ record { front = actions.front.items; back = actions.back.items } }
+    ensures { result ≡ record {
+        front = actions.front.actions.items;
+        back = actions.back.actions.items;
+        front_new = actions.front.changes.items;
+        back_new = actions.back.changes.items } }
 {
+    let ActionTable { front, back } = actions;
     Surface {
-        front: Items::from_vec(actions.front),
-        back: Items::from_vec(actions.back),
+        front: Items::from_vec(front.actions),
+        back: Items::from_vec(back.actions),
+        front_new: Items::from_vec(front.changes),
+        back_new: Items::from_vec(back.changes),
     }
 }

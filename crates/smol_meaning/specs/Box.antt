@@ -88,7 +88,7 @@ StaysInRegion plates box from by last (Goes f species) (m ∷ ms) =
 
 -- a way that isn't absorbed ends inside the box
 abbrev pub EndsInside : Cuboid → Travelled → Type 0
-EndsInside box (At place) = IsInside box place
+EndsInside box (At place species) = IsInside box place
 EndsInside box (Absorbed number) = Unit {0}
 
 -- the box confines the way of a move of a species among the plates: each true point of it is in the closed region, and it ends

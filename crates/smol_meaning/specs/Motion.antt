@@ -12,7 +12,7 @@ use Rattle.smol_meaning.specs.declared.way.Travelled.{Travelled}
 use Rattle.smol_meaning.specs.declared.way.Travelled.TheVariants.{At, Absorbed}
 use Rattle.smol_meaning.specs.Seen.{way}
 
--- a way of a run: the species of the molecule that goes it, where it begins, and its displacement
+-- a way of a run: the species of the molecule as it sets out, where it begins, and its displacement
 pub record Move : Type 0 where
   pub species : ℕ
   pub from : Place
@@ -34,9 +34,9 @@ diffusion draft seed k mol = record {
   by = displacement seed mol.serial k (difstep_of draft mol.species) draft.dims;
 }
 
--- the molecule at the end of its way, where it wasn't absorbed
+-- the molecule at the end of its way, where it wasn't absorbed: it has the species with which its way ends
 abbrev pub arrived : Mol → Travelled → Option Mol
-arrived mol (At place) = Some (record mol { place = place })
+arrived mol (At place species) = Some (record mol { species = species; place = place })
 arrived mol (Absorbed number) = None
 
 -- a molecule after the motion of step k

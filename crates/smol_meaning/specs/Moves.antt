@@ -28,5 +28,5 @@ pub record IsEndOf (dims : ℕ) (from : Place) (by : Step3) (place : Place) : Ty
 
 -- a way that isn't absorbed ends so
 abbrev pub EndsWithin : ℕ → Place → Step3 → Travelled → Type 0
-EndsWithin dims from by (At place) = IsEndOf dims from by place
+EndsWithin dims from by (At place species) = IsEndOf dims from by place
 EndsWithin dims from by (Absorbed number) = Unit {0}

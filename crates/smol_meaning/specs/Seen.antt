@@ -13,7 +13,7 @@ use Rattle.smol_types.specs.declared.surface.Face.{Face}
 use Rattle.smol_types.specs.declared.surface.Face.TheVariants.{Front, Back}
 use Rattle.smol_types.specs.declared.surface.Panel.{Panel}
 use Rattle.smol_types.specs.declared.wall.Wall.{Wall}
-use Rattle.smol_types.specs.Actions.{action_of, destination_of}
+use Rattle.smol_types.specs.Actions.{action_of, change_of, destination_of}
 use Rattle.smol_meaning.specs.declared.sheet.Sheet.TheVariants.{Rectangle, Plane}
 use Rattle.smol_meaning.specs.declared.way.Effect.{Effect}
 use Rattle.smol_meaning.specs.declared.way.Response.{Response}
@@ -59,9 +59,10 @@ abbrev pub panel_response : Draft → ℕ → ℕ → Panel → Face → Respons
 panel_response draft species number panel face =
     response_by number (action_of draft number face species) (panel_jump draft.panels panel (destination_of panel face))
 
--- what it does on a face, and what it makes of the species: no face changes a species
+-- what it does on a face, and what it makes of the species
 abbrev pub panel_effect : Draft → ℕ → Panel → Face → ℕ → Effect
-panel_effect draft number panel face species = record { response = panel_response draft species number panel face; species = species }
+panel_effect draft number panel face species =
+    record { response = panel_response draft species number panel face; species = change_of draft number face species }
 
 abbrev pub panel_plate : Draft → ℕ × Panel → Plate
 panel_plate draft entry = record {

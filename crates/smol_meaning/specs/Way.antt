@@ -42,7 +42,7 @@ end_place from by f = record { 0 = end_on from by f 0 ∷ end_on from by f 1 ∷
 
 -- where the way ends that has led so far when all moments are past
 abbrev pub ended : Place → Step3 → Standing → Travelled
-ended from by (Goes f species) = At (end_place from by f)
+ended from by (Goes f species) = At (end_place from by f) species
 ended from by (Gone number) = Absorbed number
 
 -- no mirror and no translation

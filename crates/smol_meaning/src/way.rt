@@ -33,8 +33,8 @@ pub enum Standing {
 /// Where a way ends.
 #[derive(Clone, Copy, Debug, PartialEq, Eq)]
 pub enum Travelled {
-    /// At this place.
-    At(Place),
+    /// At this place, as a molecule of this species.
+    At { place: Place, species: u16 },
     /// On the panel or wall of this number, which absorbs.
     Absorbed(u16),
 }

@@ -51,7 +51,7 @@ fn panel_effect(config: &Config, number: u16, panel: &Panel, up: bool, species: 
     let action = config.action_at(number, face, species);
     Effect {
         response: response_by(number, action, jump),
-        species,
+        species: config.change_at(number, face, species),
     }
 }
 

@@ -15,9 +15,9 @@ pub(crate) fn arrived(panels: &Panels, m: &Mol, by: Step3) -> Option<Mol>
     ensures { result ≡ arrived m.now (way panels.now m.now.species m.now.place by) }
 {
     match travel(panels, m.species, m.place, by) {
-        Travelled::At(place) => Some(Mol {
+        Travelled::At { place, species } => Some(Mol {
             serial: m.serial,
-            species: m.species,
+            species,
             place,
         }),
         Travelled::Absorbed(_) => None,

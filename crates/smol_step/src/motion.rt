@@ -56,6 +56,20 @@ fn drawn(setup: &Setup, streams: &mut Streams, k: u32, m: &Mol) -> Drawn
     Drawn { by, word }
 }
 
+// The word of the reaction that a molecule makes alone after its way, where it drew this one before it. It is drawn now where the
+// molecule has become one that may react.
+fn word_of(setup: &Setup, streams: &mut Streams, k: u32, m: &Mol, word: u32, after: &Mol) -> u32
+{
+    if after.species == m.species {
+        return word;
+    }
+    if setup.alone().may_react(after.species) {
+        streams.first_order_word(after.serial, k)
+    } else {
+        0
+    }
+}
+
 /// Moves molecules one after the other, and tells of each that is left which reaction it makes alone then: the word of that lies
 /// behind those of its displacement. Those that are left come to the front in their order, and beside each its reaction. How many
 /// they are.
@@ -76,7 +90,8 @@ pub(crate) fn diffuse_in_turn(
         let m = mols[i];
         let Drawn { by, word } = drawn(setup, &mut streams, k, &m);
         if let Some(after) = arrived(setup.panels(), &m, by) {
-            reactions[left] = setup.alone().reaction(m.species, word);
+            let word = word_of(setup, &mut streams, k, &m, word, &after);
+            reactions[left] = setup.alone().reaction(after.species, word);
             mols[left] = after;
             left += 1;
         }

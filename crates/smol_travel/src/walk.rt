@@ -29,7 +29,7 @@ const BEGINNING: Moment = Moment {
     axis: 0,
 };
 
-/// Where a molecule of a species ends that moves from a place by a displacement. Takes no memory.
+/// Where a molecule of a species ends that moves from a place by a displacement, and as which species. Takes no memory.
 pub fn travel(panels: &Panels, species: u16, from: Place, by: Step3) -> Travelled
     requires species { species < length panels.now.species }
     requires moving { IsMove panels.now.dims from by }
@@ -59,7 +59,10 @@ pub fn travel(panels: &Panels, species: u16, from: Place, by: Step3) -> Travelle
             Standing::Gone { number } => return Travelled::Absorbed(number),
         }
     }
-    Travelled::At(end_of(&Leg { from, by, fold }))
+    Travelled::At {
+        place: end_of(&Leg { from, by, fold }),
+        species: present,
+    }
 }
 
 // What the moment makes of the fold and of the species.

@@ -1,5 +1,5 @@
 -- What faces of panels and walls do to a species.
-use Rattle.std.specs.Prelude.{ℕ, ◌-◌, List, length, Option, None, Some, slice_get, slice_index_or}
+use Rattle.std.specs.Prelude.{ℕ, ◌-◌, Bool, true, false, List, length, Option, None, Some, if◌then◌else◌, slice_get, slice_index_or, unwrap_or}
 use Rattle.smol_types.specs.declared.draft.Draft.{Draft}
 use Rattle.smol_types.specs.declared.surface.Action.{Action}
 use Rattle.smol_types.specs.declared.surface.Action.TheVariants.{Reflect, Absorb, Jump, Transmit}
@@ -63,3 +63,37 @@ action_of_panel draft number face species None = action_of_wall face (slice_get 
 -- what a face does to a species. Walls are numbered after all panels
 unfoldable pub action_of : Draft → ℕ → Face → ℕ → Action
 action_of draft number face species = action_of_panel draft number face species (slice_get draft.panels number)
+
+-- what a surface says that a face makes of a species, if it says it
+abbrev pub written_change : Surface → Face → ℕ → Option ℕ
+written_change surface Front species = slice_index_or surface.front_new species None
+written_change surface Back species = slice_index_or surface.back_new species None
+
+-- the same, where there is the surface
+abbrev pub change_written : Option Surface → Face → ℕ → Option ℕ
+change_written None face species = None
+change_written (Some surface) face species = written_change surface face species
+
+-- whether the action that was written is the one that is done, as it is but for a jump that leads nowhere
+abbrev pub is_carried_out : Action → Option (ℕ × Face) → Bool
+is_carried_out Reflect to = true
+is_carried_out Absorb to = true
+is_carried_out Jump None = false
+is_carried_out Jump (Some to) = true
+is_carried_out Transmit to = true
+
+-- what a face of a panel makes of a species on which it acts
+abbrev pub panel_change : List Surface → Panel → Face → ℕ → ℕ
+panel_change surfaces panel face species =
+    if is_carried_out (action_written (slice_get surfaces panel.surface) face species) (destination_of panel face)
+    then unwrap_or (change_written (slice_get surfaces panel.surface) face species) species
+    else species
+
+-- the same, where there is the panel. A wall changes no species
+abbrev pub change_of_panel : Draft → Face → ℕ → Option Panel → ℕ
+change_of_panel draft face species (Some panel) = panel_change draft.surfaces panel face species
+change_of_panel draft face species None = species
+
+-- the species that a face makes of a species on which it acts
+unfoldable pub change_of : Draft → ℕ → Face → ℕ → ℕ
+change_of draft number face species = change_of_panel draft face species (slice_get draft.panels number)

@@ -4,6 +4,7 @@ pub mod Steps
 pub mod Coordinates
 pub mod Walls
 pub mod Actions
+pub mod Surfaces
 pub mod Panels
 pub mod Compartments
 pub mod Reactions

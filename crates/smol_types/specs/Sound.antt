@@ -5,6 +5,7 @@ use Rattle.smol_types.specs.declared.species.Species.{Species}
 use Rattle.smol_types.specs.Limits.{most_species, most_surfaces, most_panels, most_compartments, most_reactions, most_commands, most_outputs, most_molecules, most_steps, longest, latest, certain}
 use Rattle.smol_types.specs.Steps.{last_step}
 use Rattle.smol_types.specs.Walls.{AreWalls}
+use Rattle.smol_types.specs.Surfaces.{IsSurface}
 use Rattle.smol_types.specs.Panels.{IsPanel}
 use Rattle.smol_types.specs.Compartments.{IsCompartment}
 use Rattle.smol_types.specs.Reactions.{IsReaction, share_of}
@@ -19,6 +20,7 @@ pub record IsSound (draft : Draft) : Type 0 where
   pub walls : AreWalls 0 draft.walls
   pub wall_count : length draft.walls ≡ 2 * draft.dims
   pub surface_count : length draft.surfaces ≤ most_surfaces
+  pub surfaces : All (IsSurface (length draft.species)) draft.surfaces
   pub panel_count : length draft.panels ≤ most_panels
   pub panels : All (IsPanel draft.dims (length draft.surfaces) draft.panels) draft.panels
   pub compartment_count : length draft.compartments ≤ most_compartments

@@ -1,6 +1,6 @@
 //! What faces do to a species.
-ghost use Rattle.std.specs.Prelude.{◌≡◌, ◌+◌, ◌<◌, length};
-ghost use Rattle.smol_types.specs.Actions.{action_of, panel_action, wall_action, written_action};
+ghost use Rattle.std.specs.Prelude.{◌≡◌, ◌+◌, ◌<◌, length, slice_get};
+ghost use Rattle.smol_types.specs.Actions.{action_of, action_written, destination_of, panel_action, wall_action, written_action};
 
 use crate::{Action, Config, Face, Letter, Panel, Surface};
 
@@ -18,19 +18,32 @@ fn written_action(surface: &Surface, face: Face, species: u16) -> Action
     }
 }
 
+/// What the surface of a panel says of a species on a face. It lets a species through where there isn't the surface.
+pub fn action_written(surfaces: &[Surface], panel: &Panel, face: Face, species: u16) -> Action
+    ensures { result ≡ action_written (slice_get surfaces.now panel.now.surface) face species }
+{
+    match surfaces.get(panel.surface as usize) {
+        Some(surface) => written_action(surface, face, species),
+        None => Action::Transmit,
+    }
+}
+
+/// The panel, by its number, and the face of it to which a jump from a face leads.
+pub fn destination_of(panel: &Panel, face: Face) -> Option<(u16, Face)>
+    ensures { result ≡ destination_of panel.now face }
+{
+    match face {
+        Face::Front => panel.front_to,
+        Face::Back => panel.back_to,
+    }
+}
+
 // What a face of a panel does to a species: a jump that leads nowhere lets it through.
 fn panel_action(surfaces: &[Surface], panel: &Panel, face: Face, species: u16) -> Action
     ensures { result ≡ panel_action surfaces.now panel.now face species }
 {
-    let action = match surfaces.get(panel.surface as usize) {
-        Some(surface) => written_action(surface, face, species),
-        None => Action::Transmit,
-    };
-    let to = match face {
-        Face::Front => panel.front_to,
-        Face::Back => panel.back_to,
-    };
-    match (action, to) {
+    let action = action_written(surfaces, panel, face, species);
+    match (action, destination_of(panel, face)) {
         (Action::Jump, None) => Action::Transmit,
         _ => action,
     }

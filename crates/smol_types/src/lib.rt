@@ -2,6 +2,7 @@
 #![tactic(auto)]
 
 mod action_at;
+mod change_at;
 mod command;
 mod compartment;
 mod config;

@@ -27,6 +27,10 @@ pub enum Action {
 pub struct Surface {
     pub front: Items<Action>,
     pub back: Items<Action>,
+    /// The species, by its number, that the front makes of a species on which it acts. Without one the species stays.
+    pub front_new: Items<Option<u16>>,
+    /// The same for the back.
+    pub back_new: Items<Option<u16>>,
 }
 
 /// A closed rectangle across one axis.
