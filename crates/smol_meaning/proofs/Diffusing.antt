@@ -18,9 +18,10 @@ use Rattle.smol_types.specs.State.{Ascend, Fits, reach}
 use Rattle.smol_meaning.specs.declared.way.Travelled.{Travelled}
 use Rattle.smol_meaning.specs.declared.way.Travelled.TheVariants.{At, Absorbed}
 use Rattle.smol_meaning.specs.Motion.{all_diffused, arrived, diffused, diffusion, difstep_of, end_of_move}
-use Rattle.smol_meaning.specs.Moves.{EndsWithin, IsMove}
+use Rattle.smol_meaning.specs.Moves.{EndsAmong, EndsWithin, IsMove}
 use Rattle.smol_meaning.specs.Placed.{IsPlaced, StandsWithin}
 use Rattle.smol_meaning.proofs.Ends.{coordinates_of_end, way_ends_within}
+use Rattle.smol_meaning.proofs.Becoming.{way_ends_among}
 use Rattle.smol_meaning.proofs.Kept.{All-filter_map, Ascend-filter_map, item_at}
 
 coordinate_size : (most larger dims : ℕ) (xs : List ℤ) (axis : ℕ) → most ≤ larger → 1 ≤ larger → AreCoordinates most dims xs → unsigned_abs (on_axis xs axis) ≤ larger
@@ -60,11 +61,11 @@ is_move dims most longest from by stands near short even size unused =
     }
 
 -- a molecule that isn't absorbed stands no farther out than where it was and its displacement
-pub arrived_placed : (draft : Draft) (most long : ℕ) (mol : Mol) (from : Place) (by : Step3) (end : Travelled) → draft.dims ≤ 3 → mol.species < length draft.species
+pub arrived_placed : (draft : Draft) (most long : ℕ) (mol : Mol) (from : Place) (by : Step3) (end : Travelled) → draft.dims ≤ 3 → EndsAmong (length draft.species) end
     → StandsWithin draft.dims most from → farthest ≤ most → IsWithin long by.0 → EndsWithin draft.dims from by end
     → IfSome (arrived mol end) (IsPlaced draft (most + long))
 arrived_placed draft most long mol from by (Absorbed number) few there stands far step ends = tt
-arrived_placed draft most long mol from by (At place) few there stands far step ends =
+arrived_placed draft most long mol from by (At place species) few there stands far step ends =
     record {
       species = there;
       place = record {
@@ -112,7 +113,8 @@ pub diffused_placed : (draft : Draft) → IsSound draft → (seed k most : ℕ) 
     → IfSome (diffused draft seed k mol) (IsPlaced draft (most + longest_diffusion))
 diffused_placed draft sound seed k most mol placed near far =
     let move = diffusion_moves draft sound seed k most mol placed near in
-    arrived_placed draft most longest_diffusion mol mol.place (diffusion draft seed k mol).by (end_of_move draft (diffusion draft seed k mol)) sound.dims_below placed.species placed.place far
+    arrived_placed draft most longest_diffusion mol mol.place (diffusion draft seed k mol).by (end_of_move draft (diffusion draft seed k mol)) sound.dims_below
+    (way_ends_among draft mol.species mol.place (diffusion draft seed k mol).by sound placed.species) placed.place far
     (diffusion_size draft sound seed k mol placed.species) (way_ends_within draft mol.species mol.place (diffusion draft seed k mol).by sound move)
 
 -- where all do
@@ -125,7 +127,7 @@ all_diffused_placed draft sound seed k most mols placed near far =
 
 -- a molecule keeps its serial on its way
 pub arrived_keeps : (mol : Mol) (end : Travelled) → IfSome (arrived mol end) (λ (after : Mol). after.serial ≡ mol.serial)
-arrived_keeps mol (At place) = refl
+arrived_keeps mol (At place species) = refl
 arrived_keeps mol (Absorbed number) = tt
 
 pub diffused_ascend : (draft : Draft) (seed k least next : ℕ) (mols : List Mol) → Ascend least next mols → Ascend least next (all_diffused draft seed k mols)

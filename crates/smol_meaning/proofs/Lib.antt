@@ -8,6 +8,7 @@ pub mod Bounds
 pub mod Seeing
 pub mod Ends
 pub mod Confined
+pub mod Becoming
 pub mod Kept
 pub mod Diffusing
 pub mod Listing

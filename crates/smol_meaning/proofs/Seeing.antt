@@ -28,7 +28,7 @@ use Rattle.smol_meaning.specs.declared.sheet.Sheet.TheVariants.{Rectangle, Plane
 use Rattle.smol_meaning.specs.Seen.{arrival_face, response_by, corner_gap, jump_between, panel_jump, panel_effect, panel_response, panel_plate, opposite_of, wall_effect, wall_jump, wall_response, wall_plate, plates_of}
 
 -- what holds of all holds of the one that is got, where one is
-all_got : {X : Type 0} → (P : X → Type 0) (xs : List X) (i : ℕ) → All P xs → IfSome (slice_get xs i) P
+pub all_got : {X : Type 0} → (P : X → Type 0) (xs : List X) (i : ℕ) → All P xs → IfSome (slice_get xs i) P
 all_got P xs i all = go (slice_get_cases xs i).1
   where
     go : ((x : _) × (i < length xs) × (slice_get xs i ≡ Some x) × (get_or xs i x ≡ x)) ⊎ ((length xs ≤ i) × (slice_get xs i ≡ None)) → IfSome (slice_get xs i) P

@@ -28,6 +28,7 @@ use Rattle.smol_meaning.specs.Step.{births_in_step, events_of, mols_after, moves
 use Rattle.smol_meaning.proofs.Births.{births_of_are, births_of_few, length-births_of_event}
 use Rattle.smol_meaning.proofs.Diffusing.{Fits-placed, all_diffused_placed, arrived_placed, diffused_ascend, diffusion_moves, is_move, longest_diffusion, reach_near}
 use Rattle.smol_meaning.proofs.Ends.{way_ends_within}
+use Rattle.smol_meaning.proofs.Becoming.{way_ends_among}
 use Rattle.smol_meaning.proofs.Kept.{All-filter_map, Ascend-append, Ascend-filter, Ascend-from, length-filter_map}
 use Rattle.smol_meaning.proofs.Reacting.{events_are, events_few, events_stand}
 
@@ -64,7 +65,7 @@ born_ascend draft serial (birth ∷ births) numbered =
     first (Absorbed number) more =
         Ascend-from serial (serial + 1) (serial + suc (length births)) (filter_map (born draft) births) (omega arith)
         (subst (λ n. Ascend (serial + 1) n (filter_map (born draft) births)) (omega arith) more)
-    first (At place) more =
+    first (At place species) more =
         let is = numbered.0 in
         let next : (serial + 1) + length births ≡ serial + suc (length births) = omega arith in
         let behind : serial + 1 ≡ birth.serial + 1 = omega (arith, is) in (
@@ -101,7 +102,8 @@ born_placed : (draft : Draft) → IsSound draft → (most : ℕ) (birth : Birth)
     → IfSome (born draft birth) (IsPlaced draft (most + 2 * longest))
 born_placed draft sound most birth is starts near far =
     arrived_placed draft most (2 * longest) (record { serial = birth.serial; species = birth.species; place = birth.start }) birth.start birth.by
-    (end_of_move draft (birth_move birth)) sound.dims_below is.species starts far is.size
+    (end_of_move draft (birth_move birth)) sound.dims_below
+    (way_ends_among draft birth.species birth.start birth.by sound is.species) starts far is.size
     (way_ends_within draft birth.species birth.start birth.by sound (birth_moves draft most birth is starts near))
 
 both : {X : Type 0} (P Q : X → Type 0) (xs : List X) → All P xs → All Q xs → All (λ x. P x × Q x) xs

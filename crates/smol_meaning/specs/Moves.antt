@@ -1,5 +1,5 @@
 -- Moves that a way is defined for, and how far ways lead.
-use Rattle.std.specs.Prelude.{◌≡◌, ℕ, ◌+◌, ◌^◌, ◌≤◌, length, pos, max, unsigned_abs}
+use Rattle.std.specs.Prelude.{◌≡◌, ℕ, ◌+◌, ◌^◌, ◌<◌, ◌≤◌, length, pos, max, unsigned_abs}
 use Rattle.smol_geom.specs.declared.place.Place.{Place}
 use Rattle.smol_geom.specs.declared.place.Step3.{Step3}
 use Rattle.smol_geom.specs.Axes.{on_axis, EachAxis, IsWithin, IsOdd, IsEven}
@@ -30,3 +30,8 @@ pub record IsEndOf (dims : ℕ) (from : Place) (by : Step3) (place : Place) : Ty
 abbrev pub EndsWithin : ℕ → Place → Step3 → Travelled → Type 0
 EndsWithin dims from by (At place species) = IsEndOf dims from by place
 EndsWithin dims from by (Absorbed number) = Unit {0}
+
+-- and as one of so many species
+abbrev pub EndsAmong : ℕ → Travelled → Type 0
+EndsAmong count (At place species) = species < count
+EndsAmong count (Absorbed number) = Unit {0}

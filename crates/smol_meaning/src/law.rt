@@ -1,5 +1,5 @@
 //! Laws of ways and of runs, whatever the configuration, the seed and the move. These functions do nothing: the laws are their contracts.
-ghost use Rattle.std.specs.Prelude.{◌≡◌, ℕ, All, Bool, Ok, true};
+ghost use Rattle.std.specs.Prelude.{◌≡◌, ℕ, ◌<◌, All, Bool, Ok, length, true};
 ghost use Rattle.smol_geom.specs.declared.cuboid.Cuboid.{Cuboid};
 ghost use Rattle.smol_geom.specs.declared.place.Place.{Place};
 ghost use Rattle.smol_geom.specs.declared.place.Step3.{Step3};
@@ -9,7 +9,7 @@ ghost use Rattle.smol_types.specs.State.{Fits};
 ghost use Rattle.smol_meaning.specs.Box.{Confines, IsClosed, IsInside};
 ghost use Rattle.smol_meaning.specs.Crossing.{CrossesNone};
 ghost use Rattle.smol_meaning.specs.Motion.{Move};
-ghost use Rattle.smol_meaning.specs.Moves.{EndsWithin, IsMove};
+ghost use Rattle.smol_meaning.specs.Moves.{EndsAmong, EndsWithin, IsMove};
 ghost use Rattle.smol_meaning.specs.Run.{run_of};
 ghost use Rattle.smol_meaning.specs.Seen.{plates_of, way};
 ghost use Rattle.smol_meaning.specs.Stretch.{Stretch};
@@ -28,9 +28,11 @@ pub fn ways_are_confined()
 {}
 
 /// A way ends on an odd place, no farther out than its start or the farthest plane and its displacement, and where an
-/// axis isn't in use it ends where it starts.
+/// axis isn't in use it ends where it starts. It ends as a species that there is.
 pub fn ways_end_near()
-    ensures { (draft : Draft) (species : ℕ) (from : Place) (by : Step3) → IsSound draft → IsMove draft.dims from by
+    ensures species { (draft : Draft) (species : ℕ) (from : Place) (by : Step3) → IsSound draft → species < length draft.species
+        → EndsAmong (length draft.species) (way draft species from by) }
+    ensures place { (draft : Draft) (species : ℕ) (from : Place) (by : Step3) → IsSound draft → IsMove draft.dims from by
         → EndsWithin draft.dims from by (way draft species from by) }
 {}
 

@@ -1,5 +1,5 @@
 -- Commands that a configuration may have.
-use Rattle.std.specs.Prelude.{◌≡◌, ℕ, ◌+◌, ◌<◌, ◌≤◌, pos, ◌<ℤ◌, ℤ, List, [], ◌∷◌, length, All, unsigned_abs}
+use Rattle.std.specs.Prelude.{◌≡◌, ℕ, ◌+◌, ◌<◌, ◌≤◌, pos, ◌<ℤ◌, ℤ, List, length, All, unsigned_abs}
 use Rattle.smol_geom.specs.Axes.{IsWithin}
 use Rattle.smol_types.specs.declared.wall.Wall.{Wall}
 use Rattle.smol_types.specs.declared.command.When.{When}
