@@ -16,7 +16,7 @@ use Rattle.smol_types.specs.declared.surface.Face.TheVariants.{Front, Back}
 use Rattle.smol_types.specs.declared.surface.Panel.{Panel}
 use Rattle.smol_types.specs.declared.surface.Surface.{Surface}
 use Rattle.smol_types.specs.declared.wall.Wall.{Wall}
-use Rattle.smol_types.specs.Actions.{action_written, change_of, change_of_panel, change_written, destination_of, is_carried_out, written_change}
+use Rattle.smol_types.specs.Actions.{action_written, change_of, change_of_panel, change_written, destination_of, is_carried_out, panel_change, written_change}
 use Rattle.smol_types.specs.Sound.{IsSound}
 use Rattle.smol_types.specs.Surfaces.{AreChanges, IsSurface}
 use Rattle.smol_meaning.specs.declared.way.Effect.{Effect}
@@ -47,11 +47,15 @@ written_within : (count : ℕ) (surface : Surface) (face : Face) (species : ℕ)
 written_within count surface Front species is = entry_within count surface.front_new species is.front_new
 written_within count surface Back species is = entry_within count surface.back_new species is.back_new
 
--- what a face makes of a species that there is is one
-pub change_within : (draft : Draft) → IsSound draft → (number : ℕ) (face : Face) (species : ℕ) → species < length draft.species
-    → change_of draft number face species < length draft.species
-unfolding change_of
-change_within draft sound number face species there = of_panel (slice_get draft.panels number)
+-- what a face of a panel makes of a species that there is is one
+pub panel_change_within : (draft : Draft) → IsSound draft → (panel : Panel) (face : Face) (species : ℕ) → species < length draft.species
+    → panel_change draft.surfaces panel face species < length draft.species
+panel_change_within draft sound panel face species there =
+    cond_both (is_carried_out (action_written (slice_get draft.surfaces panel.surface) face species) (destination_of panel face))
+    (unwrap_or (change_written (slice_get draft.surfaces panel.surface) face species) species) species (λ s. s < count)
+    (λ e. changed_within count species (change_written (slice_get draft.surfaces panel.surface) face species) there
+    (of_surface (slice_get draft.surfaces panel.surface) (all_got (IsSurface count) draft.surfaces panel.surface sound.surfaces)))
+    (λ e. there)
   where
     count : ℕ
     count = length draft.species
@@ -60,14 +64,15 @@ change_within draft sound number face species there = of_panel (slice_get draft.
     of_surface None is = tt
     of_surface (Some surface) is = written_within count surface face species is
 
-    of_panel : (panel : Option Panel) → change_of_panel draft face species panel < count
+-- and so is what any face makes of it: a wall leaves it as it is
+pub change_within : (draft : Draft) → IsSound draft → (number : ℕ) (face : Face) (species : ℕ) → species < length draft.species
+    → change_of draft number face species < length draft.species
+unfolding change_of
+change_within draft sound number face species there = of_panel (slice_get draft.panels number)
+  where
+    of_panel : (panel : Option Panel) → change_of_panel draft face species panel < length draft.species
     of_panel None = there
-    of_panel (Some panel) =
-        cond_both (is_carried_out (action_written (slice_get draft.surfaces panel.surface) face species) (destination_of panel face))
-        (unwrap_or (change_written (slice_get draft.surfaces panel.surface) face species) species) species (λ s. s < count)
-        (λ e. changed_within count species (change_written (slice_get draft.surfaces panel.surface) face species) there
-        (of_surface (slice_get draft.surfaces panel.surface) (all_got (IsSurface count) draft.surfaces panel.surface sound.surfaces)))
-        (λ e. there)
+    of_panel (Some panel) = panel_change_within draft sound panel face species there
 
 -- a plate makes of each of so many species one of them
 abbrev KeepsKinds : ℕ → Plate → Type 0
