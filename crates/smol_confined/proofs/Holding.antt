@@ -1,24 +1,26 @@
 -- A box that is built is closed.
-use Rattle.std.proofs.Common.{◌≡◌, ℕ, ◌+◌, ◌<◌, Bool, true, false, not, inl, inr, length, map, refl, sym, ap, subst, ◌∙◌, arith, ℤ}
-use Rattle.std.specs.Prelude.{Contains}
+use Rattle.std.proofs.Common.{◌≡◌, ℕ, ◌+◌, ◌<◌, Bool, true, false, not, inl, inr, get_or, length, map, refl, sym, ap, subst, ◌∙◌, arith, ℤ}
+use Rattle.std.specs.Prelude.{All, Contains}
 use Rattle.std.specs.List.{enumerate_from}
-use Rattle.std.proofs.lemmas.Bool.{ltb-true}
+use Rattle.std.proofs.lemmas.Bool.{both_ways, lt-ltb, ltb-true}
 use Rattle.std.proofs.lemmas.List.Elements.{All-contains, Contains-append_left, Contains-append_right}
 use Rattle.smol_geom.specs.declared.cuboid.Cuboid.{Cuboid}
 use Rattle.smol_geom.specs.Axes.{on_axis}
 use Rattle.smol_geom.proofs.Lists.{contains_had}
 use Rattle.smol_types.specs.declared.draft.Draft.{Draft}
 use Rattle.smol_types.specs.declared.surface.Action.TheVariants as action
+use Rattle.smol_types.specs.declared.surface.Face.{Face}
 use Rattle.smol_types.specs.declared.surface.Face.TheVariants.{Front}
 use Rattle.smol_types.specs.declared.surface.Panel.{Panel}
 use Rattle.smol_types.specs.declared.wall.Wall.{Wall}
-use Rattle.smol_types.specs.Actions.{action_of, destination_of, panel_action, wall_action}
+use Rattle.smol_types.specs.Actions.{action_of, destination_of, panel_action, panel_change, wall_action}
 use Rattle.smol_types.specs.Sound.{IsSound}
 use Rattle.smol_meaning.specs.declared.way.Response.TheVariants.{Reflect}
 use Rattle.smol_meaning.specs.Box.{IsClosed, IsFaceShut}
 use Rattle.smol_meaning.specs.Plates.{response_of}
 use Rattle.smol_meaning.specs.Seen.{IsClosedBox, arrival_face, is_species, opposite_of, panel_jump, panel_plate, plates_of, response_by, wall_jump, wall_plate}
-use Rattle.smol_confined.specs.Built.{IsBuilt, IsHeld, IsPanelAt, IsWallAt, inner_face}
+use Rattle.smol_meaning.proofs.Becoming.{panel_change_within}
+use Rattle.smol_confined.specs.Built.{IsBuilt, IsHeld, IsNoChangeIn, IsPanelAt, IsWallAt, inner_face}
 use Rattle.smol_confined.proofs.Listed.{got_there, has_numbered}
 use Rattle.smol_confined.proofs.Quiet.{IsQuiet, all_quiet, panel_acts, wall_acts}
 
@@ -99,15 +101,25 @@ module _ (draft : Draft) (species : ℕ) where
 
 -- a box that is built for each species among these is closed for them
 pub is_closed : (draft : Draft) (among : ℕ → Bool) (box : Cuboid) → IsSound draft → ((species : ℕ) → among species ≡ true → IsBuilt draft species box)
-    → IsClosed draft.dims (plates_of draft) among box
-is_closed draft among box sound built = record {
+    → All (IsNoChangeIn draft among box) draft.panels → IsClosed draft.dims (plates_of draft) among box
+is_closed draft among box sound built changes = record {
   lower = λ species kin axis used. shut draft species box axis (on_axis box.low axis) false ((built species kin).lower axis used);
   upper = λ species kin axis used. shut draft species box axis (on_axis box.high axis) true ((built species kin).upper axis used);
   quiet = λ plate listed point within on.
-      All-contains (IsQuiet draft among box) (plates_of draft) plate (all_quiet draft among box sound built) listed point within on;
+      All-contains (IsQuiet draft among box) (plates_of draft) plate (all_quiet draft among box sound built changes) listed point within on;
 }
 
 pub is_closed_box : (draft : Draft) (box : Cuboid) → IsSound draft →
     ((species : ℕ) → species < length draft.species → IsBuilt draft species box) → IsClosedBox draft box
 is_closed_box draft box sound built =
     is_closed draft (is_species draft) box sound (λ species kin. built species (ltb-true species (length draft.species) kin))
+    (λ i d within face species kin other. absurd (stays_known species face (get_or draft.panels i d) kin other))
+  where
+    -- of a species that there is no face makes one that there isn't
+    stays_known : (species : ℕ) (face : Face) (panel : Panel) → is_species draft species ≡ true
+        → is_species draft (panel_change draft.surfaces panel face species) ≡ false → ⊥
+    stays_known species face panel kin other =
+        let known : is_species draft (panel_change draft.surfaces panel face species) ≡ true =
+        lt-ltb (panel_change draft.surfaces panel face species) (length draft.species)
+        (panel_change_within draft sound panel face species (ltb-true species (length draft.species) kin)) in
+        both_ways (is_species draft (panel_change draft.surfaces panel face species)) other known

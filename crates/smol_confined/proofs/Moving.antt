@@ -20,7 +20,7 @@ use Rattle.smol_confined.specs.Laws.{IsBoxedStep, MotionIsConfined}
 use Rattle.smol_confined.proofs.Parts.{All-from_map, All-front}
 
 arrives_in : (box : Cuboid) (mol : Mol) (end : Travelled) → EndsInside box end → IfSome (arrived mol end) (StandsIn box)
-arrives_in box mol (At place) inside = inside
+arrives_in box mol (At place species) inside = inside
 arrives_in box mol (Absorbed number) inside = tt
 
 -- at the end of a way that starts inside, a molecule is inside

@@ -22,7 +22,7 @@ use Rattle.smol_types.specs.declared.surface.Panel.{Panel}
 use Rattle.smol_types.specs.declared.wall.Letter.{Letter}
 use Rattle.smol_types.specs.declared.wall.Letter.TheVariants as letter
 use Rattle.smol_types.specs.declared.wall.Wall.{Wall}
-use Rattle.smol_types.specs.Actions.{action_of, action_of_panel, action_of_wall, panel_action, wall_action}
+use Rattle.smol_types.specs.Actions.{action_of, action_of_panel, action_of_wall, change_of, change_of_panel, panel_action, panel_change, wall_action}
 use Rattle.smol_types.specs.Sound.{IsSound}
 use Rattle.smol_meaning.specs.declared.way.Response.{Response}
 use Rattle.smol_meaning.specs.Box.{IsInRegion, StaysAmong, StaysPut}
@@ -30,7 +30,7 @@ use Rattle.smol_meaning.specs.Folds.{IsWallPlane}
 use Rattle.smol_meaning.specs.Plates.{IsOn, Plate, effect_of}
 use Rattle.smol_meaning.specs.Seen.{arrival_face, panel_effect, panel_plate, plates_of, response_by, wall_effect, wall_plate}
 use Rattle.smol_meaning.proofs.Seeing.{wall_planes_fit}
-use Rattle.smol_confined.specs.Built.{IsApart, IsBuilt, IsNoJumpIn, IsNoPeriodIn}
+use Rattle.smol_confined.specs.Built.{IsApart, IsBuilt, IsNoChangeIn, IsNoJumpIn, IsNoPeriodIn}
 use Rattle.smol_confined.proofs.Listed.{all_numbered}
 
 -- a number from a lower to a higher one is no number below them or above them
@@ -72,6 +72,11 @@ stays number action.Absorb jump none = tt
 stays number action.Jump jump none = absurd (none refl)
 stays number action.Transmit jump none = tt
 
+-- what isn't false is true
+unless_false : (b : Bool) → (b ≡ false → ⊥) → b ≡ true
+unless_false true not_so = refl
+unless_false false not_so = absurd (not_so refl)
+
 -- a wall that isn't periodic doesn't jump
 only_periodic : (l : Letter) (face : Face) → wall_action l face ≡ action.Jump → l ≡ letter.P
 only_periodic letter.R Front e = absurd (cc)
@@ -89,6 +94,12 @@ module _ (draft : Draft) (species : ℕ) where
       → action_of draft number face species ≡ panel_action draft.surfaces panel face species
   unfolding action_of
   panel_acts number panel face is = ap (action_of_panel draft number face species) is
+
+  -- and what a face of a panel makes of the species
+  panel_makes : (number : ℕ) (panel : Panel) (face : Face) → slice_get draft.panels number ≡ Some panel
+      → change_of draft number face species ≡ panel_change draft.surfaces panel face species
+  unfolding change_of
+  panel_makes number panel face is = ap (change_of_panel draft face species) is
 
   pub wall_acts : (i : ℕ) (wall : Wall) (face : Face) → slice_get draft.walls i ≡ Some wall
       → action_of draft (length draft.panels + i) face species ≡ wall_action wall.letter face
@@ -109,13 +120,15 @@ module _ (draft : Draft) (among : ℕ → Bool) where
       → StaysAmong among (effect_of plate up species)
 
   panel_quiet : (box : Cuboid) (number : ℕ) (panel : Panel) → slice_get draft.panels number ≡ Some panel
-      → ((species : ℕ) → among species ≡ true → IsNoJumpIn draft species box panel)
+      → ((species : ℕ) → among species ≡ true → IsNoJumpIn draft species box panel) → IsNoChangeIn draft among box panel
       → IsQuiet box (panel_plate draft (number, panel))
-  panel_quiet box number panel is apart = λ point within on species kin up.
+  panel_quiet box number panel is apart changes = λ point within on species kin up.
       let by : (face : Face) → StaysAmong among (panel_effect draft number panel face species) = λ face. record {
         put = stays number (action_of draft number face species) _
             (λ e. none_of_rect panel.rect box point (apart species kin face (sym (panel_acts draft species number panel face is) ∙ e)) within on);
-        kin = kin;
+        kin = ap among (panel_makes draft species number panel face is)
+            ∙ unless_false (among (panel_change draft.surfaces panel face species))
+            (λ other. none_of_rect panel.rect box point (changes face species kin other) within on);
       } in
       cond_both up (panel_effect draft number panel (arrival_face panel.greater true) species)
       (panel_effect draft number panel (arrival_face panel.greater false) species) (StaysAmong among)
@@ -141,16 +154,17 @@ module _ (draft : Draft) (among : ℕ → Bool) where
   got Q (y ∷ xs) (suc i) x is all = got Q xs i x is (λ k d l. all (suc k) d (omega arith))
 
   pub all_quiet : (box : Cuboid) → IsSound draft → ((species : ℕ) → among species ≡ true → IsBuilt draft species box)
-      → All (IsQuiet box) (plates_of draft)
+      → All (IsNoChangeIn draft among box) draft.panels → All (IsQuiet box) (plates_of draft)
   unfolding plates_of
-  all_quiet box sound built =
+  all_quiet box sound built changes =
       All-append (IsQuiet box) (map (panel_plate draft) (enumerate_from 0 draft.panels))
       (map (wall_plate draft) (enumerate_from (length draft.panels) draft.walls))
       (All-map (IsQuiet box) (panel_plate draft) (enumerate_from 0 draft.panels)
       (all_numbered (λ entry. IsQuiet box (panel_plate draft entry)) 0 draft.panels (λ i panel is.
       let at : i ≡ 0 + i = omega arith in
       subst (λ k. IsQuiet box (panel_plate draft (k, panel))) at
-      (panel_quiet box i panel is (λ species kin. got (IsNoJumpIn draft species box) draft.panels i panel is (built species kin).jumps)))))
+      (panel_quiet box i panel is (λ species kin. got (IsNoJumpIn draft species box) draft.panels i panel is (built species kin).jumps)
+      (got (IsNoChangeIn draft among box) draft.panels i panel is changes)))))
       (All-map (IsQuiet box) (wall_plate draft) (enumerate_from (length draft.panels) draft.walls)
       (all_numbered (λ entry. IsQuiet box (wall_plate draft entry)) (length draft.panels) draft.walls (λ i wall is.
       wall_quiet box i wall is (got (λ w. IsWallPlane w.axis w.plane) draft.walls i wall is (wall_planes_fit draft sound)).across

@@ -98,7 +98,7 @@ new_other box serial next draft birth given new = by_end (end_of_move draft (bir
   where
     by_end : (end : Travelled) → IfSome (arrived (record { serial = birth.serial; species = birth.species; place = birth.start }) end) (IsNotOut box serial)
     by_end (Absorbed number) = tt
-    by_end (At place) = λ same. absurd (omega (arith, same, given, new))
+    by_end (At place species) = λ same. absurd (omega (arith, same, given, new))
 
 -- a state within the limit is the state
 pub passed : (most : ℕ) (state next : State) → within_limit most state ≡ Ok next → state ≡ next
@@ -114,7 +114,7 @@ module _ (draft : Draft) (sound : IsSound draft) (seed : ℕ) (box : Cuboid) (cl
   motion_safe k serial mol is there = by_end (end_of_move draft (diffusion draft seed k mol)) (λ same. goes_in draft sound box closed mol (diffusion draft seed k mol) is (there same))
     where
       by_end : (end : Travelled) → (mol.serial ≡ serial → IfSome (arrived mol end) (StandsIn box)) → IfSome (arrived mol end) (IsNotOut box serial)
-      by_end (At place) inside = inside
+      by_end (At place species) inside = inside
       by_end (Absorbed number) inside = tt
 
   -- a step whose ways are defined holds what is inside

@@ -12,7 +12,7 @@ use Rattle.smol_types.specs.declared.surface.Face.TheVariants.{Front, Back}
 use Rattle.smol_types.specs.declared.surface.Panel.{Panel}
 use Rattle.smol_types.specs.declared.wall.Letter.TheVariants.{R, P}
 use Rattle.smol_types.specs.declared.wall.Wall.{Wall}
-use Rattle.smol_types.specs.Actions.{panel_action}
+use Rattle.smol_types.specs.Actions.{panel_action, panel_change}
 use Rattle.smol_meaning.specs.Box.{Covers}
 use Rattle.smol_meaning.specs.declared.sheet.Sheet.TheVariants.{Rectangle}
 
@@ -50,6 +50,12 @@ IsApart rect box =
 -- the panel doesn't jump for the species, or it is apart from the box
 abbrev pub IsNoJumpIn : Draft → ℕ → Cuboid → Panel → Type 0
 IsNoJumpIn draft species box panel = (face : Face) → panel_action draft.surfaces panel face species ≡ Jump → IsApart panel.rect box
+
+-- of each of these species the panel makes one of these, or it is apart from the box
+abbrev pub IsNoChangeIn : Draft → (ℕ → Bool) → Cuboid → Panel → Type 0
+IsNoChangeIn draft among box panel =
+    (face : Face) (species : ℕ) → among species ≡ true → among (panel_change draft.surfaces panel face species) ≡ false
+    → IsApart panel.rect box
 
 -- the wall isn't periodic, or it is below the box or above it
 abbrev pub IsNoPeriodIn : Cuboid → Wall → Type 0

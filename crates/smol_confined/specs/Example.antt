@@ -64,11 +64,22 @@ far_door = record (side 0 (fifty ∷ pos 0 ∷ pos 0 ∷ []) (fifty ∷ sixty �
 abbrev pub box_and_doors : List Panel
 box_and_doors = low_x ∷ high_x ∷ low_y ∷ high_y ∷ low_z ∷ high_z ∷ near_door ∷ far_door ∷ []
 
--- a surface whose fronts reflect two species, and one whose faces jump
+-- a surface whose fronts reflect two species and make the first of the second, and one whose faces jump
 abbrev pub surfaces_of_both : List Surface
 surfaces_of_both =
-    record { front = Reflect ∷ Reflect ∷ []; back = Transmit ∷ Transmit ∷ [] }
-    ∷ record { front = Jump ∷ Jump ∷ []; back = Jump ∷ Jump ∷ [] } ∷ []
+    record {
+      front = Reflect ∷ Reflect ∷ [];
+      back = Transmit ∷ Transmit ∷ [];
+      front_new = None ∷ Some 0 ∷ [];
+      back_new = None ∷ None ∷ [];
+    }
+    ∷ record {
+      front = Jump ∷ Jump ∷ [];
+      back = Jump ∷ Jump ∷ [];
+      front_new = None ∷ None ∷ [];
+      back_new = None ∷ None ∷ [];
+    }
+    ∷ []
 
 abbrev pub periodic : ℕ → ℤ → Bool → Wall
 periodic axis plane upper = record { axis = axis; plane = plane; upper = upper; letter = P }

@@ -56,18 +56,30 @@ fn drawn(setup: &Setup, streams: &mut Streams, k: u32, m: &Mol) -> Drawn
     Drawn { by, word }
 }
 
-// The word of the reaction that a molecule makes alone after its way, where it drew this one before it. It is drawn now where the
-// molecule has become one that may react.
-fn word_of(setup: &Setup, streams: &mut Streams, k: u32, m: &Mol, word: u32, after: &Mol) -> u32
+// The reaction that a molecule makes alone in step k at the end of its way, on which it set out as this species and with this word.
+// The word tells it while the species is the same. Where the molecule has become one that may react, its word is drawn now.
+fn lone_reaction(
+    setup: &Setup,
+    streams: &mut Streams,
+    k: u32,
+    began: u16,
+    word: u32,
+    after: &Mol,
+) -> Option<u16>
+    requires species { after.now.species < length setup.now.species }
+    requires word { after.now.species ≡ began
+        → reaction_drawn after.now.species 0 0 setup.now.reactions word ≡ lone_reaction setup.now streams.old k after.now }
+    ensures value { result ≡ lone_reaction setup.now streams.old k after.now }
+    ensures seed { streams.new ≡ streams.old }
 {
-    if after.species == m.species {
-        return word;
+    let alone = setup.alone();
+    if after.species == began {
+        return alone.reaction(after.species, word);
     }
-    if setup.alone().may_react(after.species) {
-        streams.first_order_word(after.serial, k)
-    } else {
-        0
+    if !alone.may_react(after.species) {
+        return None;
     }
+    alone.reaction(after.species, streams.first_order_word(after.serial, k))
 }
 
 /// Moves molecules one after the other, and tells of each that is left which reaction it makes alone then: the word of that lies
@@ -90,8 +102,7 @@ pub(crate) fn diffuse_in_turn(
         let m = mols[i];
         let Drawn { by, word } = drawn(setup, &mut streams, k, &m);
         if let Some(after) = arrived(setup.panels(), &m, by) {
-            let word = word_of(setup, &mut streams, k, &m, word, &after);
-            reactions[left] = setup.alone().reaction(after.species, word);
+            reactions[left] = lone_reaction(setup, &mut streams, k, m.species, word, &after);
             mols[left] = after;
             left += 1;
         }

@@ -5,7 +5,7 @@ ghost use Rattle.smol_meaning.specs.declared.way.Standing.TheVariants.{Goes};
 ghost use Rattle.smol_meaning.specs.Box.{Confines, EndsInside, IsClosed, IsInside};
 ghost use Rattle.smol_meaning.specs.Crossing.{CrossesNone};
 ghost use Rattle.smol_meaning.specs.Folds.{FoldFits, StandingFits};
-ghost use Rattle.smol_meaning.specs.Moves.{IsMove, EndsWithin};
+ghost use Rattle.smol_meaning.specs.Moves.{EndsAmong, EndsWithin, IsMove};
 ghost use Rattle.smol_meaning.specs.Seen.{plates_of, way};
 ghost use Rattle.smol_meaning.specs.Way.{after_moment};
 ghost use Rattle.smol_travel.specs.Meetings.{IsOfSpecies};
@@ -36,6 +36,7 @@ pub fn travel(panels: &Panels, species: u16, from: Place, by: Step3) -> Travelle
     ensures way { result ≡ way panels.now species from by }
     ensures crosses_none { CrossesNone (plates_of panels.now) species from by }
     ensures end { EndsWithin panels.now.dims from by result }
+    ensures known { EndsAmong (length panels.now.species) result }
     ensures confined { (among : ℕ → Bool) (box : Cuboid) → among species ≡ true
         → IsClosed panels.now.dims (plates_of panels.now) among box → IsInside box from
         → Confines (plates_of panels.now) species from by box }

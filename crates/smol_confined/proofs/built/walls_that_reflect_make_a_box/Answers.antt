@@ -5,8 +5,8 @@ use Rattle.smol_confined.proofs.built.walls_that_reflect_make_a_box.Goals as goa
 
 pub returns-clause-some : goal.returns-clause-some
 returns-clause-some c =
-    λ draft among sound all jumps.
-    is_closed draft among (box_of_walls draft.walls) sound (λ species kin. walls_build draft sound all species (jumps species kin))
+    λ draft among sound all jumps changes.
+    is_closed draft among (box_of_walls draft.walls) sound (λ species kin. walls_build draft sound all species (jumps species kin)) changes
 
 pub returns-clause-every : goal.returns-clause-every
 returns-clause-every c =

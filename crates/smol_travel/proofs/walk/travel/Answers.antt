@@ -59,7 +59,7 @@ unfolding way_among
 returns-clause-way c =
     let leg : Leg = record { from = c.args.from; by = c.args.by; fold = c.loop-next.fold } in
     let same = stays (plates_of c.args.panels.now) leg c.loop-next.present c.loop-next.last c.in_default.ensures.next in
-    ap (λ p. At p) c.end_of.ensures ∙ ap (ended c.args.from c.args.by) (sym same ∙ c.loop-next.invariant.rest)
+    ap (λ p. At p c.loop-next.present) c.end_of.ensures ∙ ap (ended c.args.from c.args.by) (sym same ∙ c.loop-next.invariant.rest)
 
 pub returns-in-Gone-clause-crosses_none : goal.returns-in-Gone-clause-crosses_none
 returns-in-Gone-clause-crosses_none c = crosses_none (plates_of c.args.panels.now) c.args.species c.args.from c.args.by
