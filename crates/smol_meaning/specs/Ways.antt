@@ -6,7 +6,7 @@ use Rattle.smol_meaning.specs.Crossing.{CrossesNone}
 use Rattle.smol_meaning.specs.Motion.{Move}
 use Rattle.smol_meaning.specs.Seen.{IsClosedBox, plates_of}
 
--- the way of a move crosses no face of a panel or wall that reflects its species
+-- the way of a move crosses no face of a panel or wall that reflects what the molecule is then
 abbrev pub CrossesNoFace : Draft → Move → Type 0
 CrossesNoFace draft move = CrossesNone (plates_of draft) move.species move.from move.by
 

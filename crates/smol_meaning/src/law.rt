@@ -14,7 +14,7 @@ ghost use Rattle.smol_meaning.specs.Run.{run_of};
 ghost use Rattle.smol_meaning.specs.Seen.{plates_of, way};
 ghost use Rattle.smol_meaning.specs.Stretch.{Stretch};
 
-/// No way crosses a face that reflects its species.
+/// No way crosses a face that reflects what its molecule is then.
 pub fn no_way_crosses()
     ensures { (draft : Draft) (species : ℕ) (from : Place) (by : Step3) → CrossesNone (plates_of draft) species from by }
 {}
@@ -42,7 +42,7 @@ pub fn each_state_fits()
     ensures { (draft : Draft) (seed : ℕ) (run : Stretch) → IsSound draft → run_of draft seed ≡ Ok run → All (Fits draft) run.states }
 {}
 
-/// No way of a run crosses a face that reflects its species, be it a molecule's motion or the way of a product.
+/// No way of a run crosses a face that reflects what its molecule is then, be it a molecule's motion or the way of a product.
 pub fn no_way_of_a_run_crosses()
     ensures { (draft : Draft) (seed : ℕ) (run : Stretch) → run_of draft seed ≡ Ok run
         → All (λ (move : Move). CrossesNone (plates_of draft) move.species move.from move.by) run.moves }

@@ -1,11 +1,11 @@
 -- A search goes on.
-use Rattle.std.proofs.Common.{◌≡◌, ℕ, ◌≤◌, ◌+◌, ◌<◌, ◌++◌, List, All, ⊎_elim, arith}
+use Rattle.std.proofs.Common.{◌≡◌, ℕ, ◌≤◌, ◌+◌, ◌<◌, ◌++◌, List, ⊎_elim, arith}
 use Rattle.std.specs.Prelude.{Contains}
 use Rattle.std.proofs.lemmas.Bool.{cases_lt}
 use Rattle.std.proofs.lemmas.List.Elements.{All-append}
 use Rattle.smol_pairs.specs.declared.encounter.Encounter.{Encounter as Ranks}
 use Rattle.smol_pairs.specs.declared.search.Search.{Search}
-use Rattle.smol_pairs.specs.Searching.{AreFound, HaveMetAt, HaveMetFrom, IsGrownIn, all_of}
+use Rattle.smol_pairs.specs.Searching.{AreFound, HaveMetAt, IsGrownIn, all_of}
 use Rattle.smol_pairs.specs.Seekers.{seeker_at}
 use Rattle.smol_pairs.proofs.MetLemmas.{grown_append, grown_behind, grown_more, grown_same, met_more}
 
