@@ -20,9 +20,9 @@ use Rattle.smol_run.specs.Generated.{generated}
 use Rattle.smol_run.specs.Outcome.{seed_of}
 
 -- no way of the run crosses a face that reflects what the molecule is then, each way that starts inside a box that is closed for some
--- species, that as which it sets out among them, stays in it, and each state fits the configuration. A molecule that is inside a closed reflecting box in one state
--- is inside it in each later one, or gone; and in each step the products of what is inside are inside, and no molecule inside reacts
--- with one outside
+-- species, that as which it sets out among them, stays in it, and each state fits the configuration. A molecule that is inside a closed
+-- reflecting box in one state is inside it in each later one, or gone; and in each step the products of what is inside are inside, and
+-- no molecule inside reacts with one outside
 pub record GoesSafely (draft : Draft) (seed : ℕ) (run : Stretch) : Type 0 where
   pub crosses_none : All (λ (move : Move). CrossesNone (plates_of draft) move.species move.from move.by) run.moves
   pub confined : All (λ (move : Move). (among : ℕ → Bool) (box : Cuboid) → among move.species ≡ true → IsClosed draft.dims (plates_of draft) among box
