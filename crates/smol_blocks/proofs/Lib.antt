@@ -8,6 +8,7 @@ pub mod SurfaceHeld
 pub mod SoundValues
 pub mod SoundPanel
 pub mod SoundJump
+pub mod SoundChange
 pub mod SoundCompartment
 pub mod SoundSurface
 pub mod SoundBlocks

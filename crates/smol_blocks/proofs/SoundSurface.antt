@@ -18,24 +18,26 @@ use Rattle.smol_blocks.specs.BlocksSound.{AreSurfaceLines, IsPanelRectIn, LeadsA
 use Rattle.smol_blocks.specs.Jump.{jump_in}
 use Rattle.smol_blocks.specs.Panel.{Named, panel_in}
 use Rattle.smol_blocks.specs.Surface.{SurfaceSaid, acts, shows, leads, Known, led_to, panel_names_of, rects_of, sides_of, surface_line_in}
+use Rattle.smol_blocks.proofs.SoundChange.{acting_within, acts_within}
 use Rattle.smol_blocks.proofs.SoundJump.{IsLeading, jump_sound, leads_more, leads_nearer}
 use Rattle.smol_blocks.proofs.SoundPanel.{IsShown, panel_sound}
 use Rattle.smol_blocks.proofs.SoundValues.{found_before}
 
 -- no line is said yet
-pub no_surface_lines : (dims others : ℕ) → others ≤ most_panels → AreSurfaceLines dims others []
-no_surface_lines dims others fits = record {
+pub no_surface_lines : (dims species_count others : ℕ) → others ≤ most_panels → AreSurfaceLines dims species_count others []
+no_surface_lines dims species_count others fits = record {
   count = omega (arith, fits);
   names = refl;
   sides = refl;
   rects = All-nil (IsPanelRectIn dims);
   front_to = λ panel. tt;
   back_to = λ panel. tt;
+  changes = λ one species. tt;
 }
 
 -- a panel more
-shows_keeps : (dims others : ℕ) (lines : List SurfaceSaid) (panel : Named) → IsShown dims others (panel_names_of lines) panel → AreSurfaceLines dims others lines → AreSurfaceLines dims others (shows panel ∷ lines)
-shows_keeps dims others lines panel new sound =
+shows_keeps : (dims species_count others : ℕ) (lines : List SurfaceSaid) (panel : Named) → IsShown dims others (panel_names_of lines) panel → AreSurfaceLines dims species_count others lines → AreSurfaceLines dims species_count others (shows panel ∷ lines)
+shows_keeps dims species_count others lines panel new sound =
     let room = new.room in
     let names = sound.names in
     let sides = sound.sides in
@@ -49,34 +51,44 @@ shows_keeps dims others lines panel new sound =
       rects = All-push (IsPanelRectIn dims) (rects_of lines) panel.rect sound.rects new.rect;
       front_to = λ number. leads_more (rects_of lines) (panel.rect ∷ []) number (led_to number Front lines) (sound.front_to number);
       back_to = λ number. leads_more (rects_of lines) (panel.rect ∷ []) number (led_to number Back lines) (sound.back_to number);
+      changes = sound.changes;
     }
 
 -- a jump more
-leads_keeps : (dims others : ℕ) (lines : List SurfaceSaid) (leading : Leading) → IsLeading (rects_of lines) leading → AreSurfaceLines dims others lines → AreSurfaceLines dims others (leads leading ∷ lines)
-leads_keeps dims others lines leading new sound = record {
+leads_keeps : (dims species_count others : ℕ) (lines : List SurfaceSaid) (leading : Leading) → IsLeading (rects_of lines) leading → AreSurfaceLines dims species_count others lines → AreSurfaceLines dims species_count others (leads leading ∷ lines)
+leads_keeps dims species_count others lines leading new sound = record {
   count = sound.count;
   names = sound.names;
   sides = sound.sides;
   rects = sound.rects;
   front_to = λ panel. leads_nearer (rects_of lines) leading panel Front (led_to panel Front lines) new (sound.front_to panel);
   back_to = λ panel. leads_nearer (rects_of lines) leading panel Back (led_to panel Back lines) new (sound.back_to panel);
+  changes = sound.changes;
 }
 
 -- a line more of a surface's block
-pub surface_keeps : (given : SurfaceStatement) (known : Known) (lines : List SurfaceSaid) (line : Stated) (more : SurfaceSaid) → known.dims ≤ 3 → surface_line_in given known lines line ≡ Ok more → AreSurfaceLines known.dims known.others lines → AreSurfaceLines known.dims known.others (more ∷ lines)
+pub surface_keeps : (given : SurfaceStatement) (known : Known) (lines : List SurfaceSaid) (line : Stated) (more : SurfaceSaid) → known.dims ≤ 3 → surface_line_in given known lines line ≡ Ok more → AreSurfaceLines known.dims (length known.species) known.others lines → AreSurfaceLines known.dims (length known.species) known.others (more ∷ lines)
 unfolding surface_line_in
 surface_keeps statement.Action known lines line more few is sound =
     let by = said_by acts (action_in known.species line) more is in
-    subst (λ (more : SurfaceSaid). AreSurfaceLines known.dims known.others (more ∷ lines)) by.2
-    (record { count = sound.count; names = sound.names; sides = sound.sides; rects = sound.rects; front_to = sound.front_to; back_to = sound.back_to })
+    subst (λ (more : SurfaceSaid). AreSurfaceLines known.dims (length known.species) known.others (more ∷ lines)) by.2
+    (record {
+      count = sound.count;
+      names = sound.names;
+      sides = sound.sides;
+      rects = sound.rects;
+      front_to = sound.front_to;
+      back_to = sound.back_to;
+      changes = acts_within (length known.species) lines by.0 (acting_within known.species line by.0 by.1) sound.changes;
+    })
 surface_keeps statement.Panel known lines line more few is sound =
     let by = said_by shows (panel_in known.dims known.others (panel_names_of lines) line) more is in
-    subst (λ (more : SurfaceSaid). AreSurfaceLines known.dims known.others (more ∷ lines)) by.2
-    (shows_keeps known.dims known.others lines by.0 (panel_sound known.dims known.others (panel_names_of lines) line by.0 few by.1) sound)
+    subst (λ (more : SurfaceSaid). AreSurfaceLines known.dims (length known.species) known.others (more ∷ lines)) by.2
+    (shows_keeps known.dims (length known.species) known.others lines by.0 (panel_sound known.dims known.others (panel_names_of lines) line by.0 few by.1) sound)
 surface_keeps statement.Jump known lines line more few is sound =
     let by = said_by leads (jump_in (panel_names_of lines) (rects_of lines) line) more is in
-    subst (λ (more : SurfaceSaid). AreSurfaceLines known.dims known.others (more ∷ lines)) by.2
-    (leads_keeps known.dims known.others lines by.0 (jump_sound (panel_names_of lines) (rects_of lines) line by.0 sound.names by.1) sound)
+    subst (λ (more : SurfaceSaid). AreSurfaceLines known.dims (length known.species) known.others (more ∷ lines)) by.2
+    (leads_keeps known.dims (length known.species) known.others lines by.0 (jump_sound (panel_names_of lines) (rects_of lines) line by.0 sound.names by.1) sound)
 
 -- a surface has a panel for each rectangle
 pub length-panels_from : (surface others : ℕ) (lines : List SurfaceSaid) (number : ℕ) (rects : List Rect) (sides : List Bool) → length sides ≡ length rects → length (panels_from surface others lines number rects sides) ≡ length rects
@@ -154,9 +166,9 @@ from_start all one lines lead at =
     subst (λ (place : ℕ). LeadsFrom all (slice_get all at) (led_to place one lines)) same (lead at)
 
 -- the panels of the surface of a block
-pub panels_sound : (dims surface_count surface others : ℕ) (panels : List ThePanel) (lines : List SurfaceSaid) → surface < surface_count → StandBehind others (rects_of lines) panels → AreSurfaceLines dims others lines
+pub panels_sound : (dims species_count surface_count surface others : ℕ) (panels : List ThePanel) (lines : List SurfaceSaid) → surface < surface_count → StandBehind others (rects_of lines) panels → AreSurfaceLines dims species_count others lines
     → All (IsPanel dims surface_count panels) (panels_from surface others lines 0 (rects_of lines) (sides_of lines))
-panels_sound dims surface_count surface others panels lines below stand sound =
+panels_sound dims species_count surface_count surface others panels lines below stand sound =
     panels_from_sound dims surface_count surface others panels (rects_of lines) lines 0 (rects_of lines) (sides_of lines) below stand sound.rects
     (from_start (rects_of lines) Front lines sound.front_to) (from_start (rects_of lines) Back lines sound.back_to)
 

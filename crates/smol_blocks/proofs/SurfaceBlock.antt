@@ -52,7 +52,7 @@ module _ (axes : Axes) (species surfaces : List (List ℕ)) (panels : ℕ) (line
   -- what a table of the lines gives
   pub surface_drafted : (name : List ℕ) (dims next number : ℕ) (table : SurfaceTable) (draft : SurfaceDraft) → block_name_in axes surfaces most_surfaces line ≡ Ok name → needs_dim axes ≡ Ok dims
       → HoldsBlock Holds (block_from (in_surface_block (known_of dims species panels)) line.number [] at lines) table next → IsReady table (length species) → number ≡ length surfaces
-      → draft.name ≡ name → draft.surface ≡ record { front = table.actions.front.items; back = table.actions.back.items }
+      → draft.name ≡ name → draft.surface ≡ record { front = table.actions.front.actions.items; back = table.actions.back.actions.items; front_new = table.actions.front.changes.items; back_new = table.actions.back.changes.items }
       → ((said : List SurfaceSaid) → Holds table said → draft.panels ≡ panels_in number panels said)
       → surface_block axes species surfaces panels line at lines ≡ Ok (draft, next)
   surface_drafted name dims next number table draft named dim read ready count same made shown =

@@ -33,15 +33,19 @@ pushed_default (x ∷ xs) d zero = refl
 pushed_default (x ∷ xs) d (suc k) = pushed_default xs d k
 
 pub acts_held : (table : SurfaceTable) (before : List SurfaceSaid) (acting : Acting) (new : ActionTable)
-    → ((species : ℕ) → slice_index_or new.front.items species Transmit ≡ (if means_face acting.faces Front && is_chosen species acting.who then acting.action else slice_index_or table.actions.front.items species Transmit))
-    → ((species : ℕ) → slice_index_or new.back.items species Transmit ≡ (if means_face acting.faces Back && is_chosen species acting.who then acting.action else slice_index_or table.actions.back.items species Transmit))
+    → ((species : ℕ) → slice_index_or new.front.actions.items species Transmit ≡ (if means_face acting.faces Front && is_chosen species acting.who then acting.action else slice_index_or table.actions.front.actions.items species Transmit))
+    → ((species : ℕ) → slice_index_or new.back.actions.items species Transmit ≡ (if means_face acting.faces Back && is_chosen species acting.who then acting.action else slice_index_or table.actions.back.actions.items species Transmit))
+    → ((species : ℕ) → slice_index_or new.front.changes.items species None ≡ (if means_face acting.faces Front && is_chosen species acting.who then acting.new else slice_index_or table.actions.front.changes.items species None))
+    → ((species : ℕ) → slice_index_or new.back.changes.items species None ≡ (if means_face acting.faces Back && is_chosen species acting.who then acting.new else slice_index_or table.actions.back.changes.items species None))
     → Holds table before → Holds (record table { actions = new }) (acts acting ∷ before)
-acts_held table before acting new front back h = record {
+acts_held table before acting new front back front_new back_new h = record {
   names = h.names;
   rects = h.rects;
   sides = h.sides;
   front = λ species. front species ∙ ap (λ old. if means_face acting.faces Front && is_chosen species acting.who then acting.action else old) (h.front species);
   back = λ species. back species ∙ ap (λ old. if means_face acting.faces Back && is_chosen species acting.who then acting.action else old) (h.back species);
+  front_new = λ species. front_new species ∙ ap (λ old. if means_face acting.faces Front && is_chosen species acting.who then acting.new else old) (h.front_new species);
+  back_new = λ species. back_new species ∙ ap (λ old. if means_face acting.faces Back && is_chosen species acting.who then acting.new else old) (h.back_new species);
   front_to = h.front_to;
   back_to = h.back_to;
 }
@@ -53,6 +57,8 @@ shows_held table before panel new adds h = record {
   sides = adds.sides ∙ ap (λ old. old ++ panel.facing.greater ∷ []) h.sides;
   front = h.front;
   back = h.back;
+  front_new = h.front_new;
+  back_new = h.back_new;
   front_to = λ number. ap (λ to. get_or to number None) adds.front_to ∙ pushed_default table.panels.front_to.items None number ∙ h.front_to number;
   back_to = λ number. ap (λ to. get_or to number None) adds.back_to ∙ pushed_default table.panels.back_to.items None number ∙ h.back_to number;
 }
@@ -64,6 +70,8 @@ leads_held table before leading new adds h = record {
   sides = adds.sides ∙ h.sides;
   front = h.front;
   back = h.back;
+  front_new = h.front_new;
+  back_new = h.back_new;
   front_to = λ panel. adds.front_to panel ∙ ap (nearer (led_by leading panel Front)) (h.front_to panel);
   back_to = λ panel. adds.back_to panel ∙ ap (nearer (led_by leading panel Back)) (h.back_to panel);
 }

@@ -1,5 +1,5 @@
 -- What holds of what lines without a fault say of blocks. This is no part of what a text means.
-use Rattle.std.specs.Prelude.{◌≡◌, ℕ, ◌+◌, ◌<◌, ◌≤◌, pos, List, [], length, All, Option, None, Some, IsSomeAnd, slice_get}
+use Rattle.std.specs.Prelude.{◌≡◌, ℕ, ◌+◌, ◌<◌, ◌≤◌, pos, List, [], length, All, Option, None, Some, IfSome, IsSomeAnd, slice_get}
 use Rattle.smol_geom.specs.declared.rect.Rect.{Rect}
 use Rattle.smol_geom.specs.Axes.{on_axis, EachAxis, IsEven, IsWithin}
 use Rattle.smol_geom.specs.Rect.{IsRect}
@@ -8,9 +8,10 @@ use Rattle.smol_types.specs.declared.surface.Face.TheVariants.{Front, Back}
 use Rattle.smol_types.specs.Compartments.{IsCompartment, IsPoint}
 use Rattle.smol_types.specs.Limits.{farthest, most_bounds, most_compartments, most_panels, most_points, most_surfaces}
 use Rattle.smol_types.specs.Panels.{HasEdges, IsCongruent, IsPanel}
+use Rattle.smol_types.specs.Surfaces.{IsSurface}
 use Rattle.smol_blocks.specs.Blocks.{Block, no_block, in_surface, in_compartment, BlockSaid, block_of, surface_names, surfaces_of, panels_of, compartment_names, compartments_of}
 use Rattle.smol_blocks.specs.Compartment.{CompartmentSaid, surfaces_named, points_given}
-use Rattle.smol_blocks.specs.Surface.{SurfaceSaid, led_to, panel_names_of, rects_of, sides_of}
+use Rattle.smol_blocks.specs.Surface.{SurfaceSaid, changing_on, led_to, panel_names_of, rects_of, sides_of}
 
 -- a rectangle that a panel may have
 pub record IsPanelRectIn (dims : ℕ) (rect : Rect) : Type 0 where
@@ -37,14 +38,19 @@ LeadsFrom rects None None = Unit {0}
 LeadsFrom rects None (Some to) = ⊥
 LeadsFrom rects (Some rect) to = LeadsAmong rects rect to
 
--- the lines of a surface's block, where so many panels of other surfaces stand before
-pub record AreSurfaceLines (dims others : ℕ) (lines : List SurfaceSaid) : Type 0 where
+-- what faces make of species, by these lines, is one of so many species
+abbrev pub ChangeWithin : ℕ → List SurfaceSaid → Type 0
+ChangeWithin species_count lines = (one : Face) (species : ℕ) → IfSome (changing_on one species lines) (λ new. new < species_count)
+
+-- the lines of a surface's block, beside so many species, where so many panels of other surfaces stand before
+pub record AreSurfaceLines (dims species_count others : ℕ) (lines : List SurfaceSaid) : Type 0 where
   pub count : others + length (rects_of lines) ≤ most_panels
   pub names : length (panel_names_of lines) ≡ length (rects_of lines)
   pub sides : length (sides_of lines) ≡ length (rects_of lines)
   pub rects : All (IsPanelRectIn dims) (rects_of lines)
   pub front_to : (panel : ℕ) → LeadsFrom (rects_of lines) (slice_get (rects_of lines) panel) (led_to panel Front lines)
   pub back_to : (panel : ℕ) → LeadsFrom (rects_of lines) (slice_get (rects_of lines) panel) (led_to panel Back lines)
+  pub changes : ChangeWithin species_count lines
 
 -- the lines of a compartment's block, beside so many surfaces
 pub record AreCompartmentLines (dims surface_count : ℕ) (lines : List CompartmentSaid) : Type 0 where
@@ -54,26 +60,27 @@ pub record AreCompartmentLines (dims surface_count : ℕ) (lines : List Compartm
   pub points : All (IsPoint dims) (points_given lines)
 
 -- the block that is open. Each surface and compartment but the one of the open block is closed
-abbrev pub IsBlock : ℕ → List BlockSaid → Block → Type 0
-IsBlock dims said no_block =
+abbrev pub IsBlock : ℕ → ℕ → List BlockSaid → Block → Type 0
+IsBlock dims species_count said no_block =
     (length (surface_names said) ≡ length (surfaces_of said)) × (length (compartment_names said) ≡ length (compartments_of said))
-IsBlock dims said (in_surface opened lines) =
+IsBlock dims species_count said (in_surface opened lines) =
     (length (surface_names said) ≡ length (surfaces_of said) + 1) × (length (compartment_names said) ≡ length (compartments_of said))
-    × AreSurfaceLines dims (length (panels_of said)) lines
-IsBlock dims said (in_compartment opened lines) =
+    × AreSurfaceLines dims species_count (length (panels_of said)) lines
+IsBlock dims species_count said (in_compartment opened lines) =
     (length (surface_names said) ≡ length (surfaces_of said)) × (length (compartment_names said) ≡ length (compartments_of said) + 1)
     × AreCompartmentLines dims (length (surfaces_of said)) lines
 
--- what lines say of blocks where so many axes are in use
-pub record AreBlocksOf (dims : ℕ) (said : List BlockSaid) : Type 0 where
+-- what lines say of blocks where so many axes are in use and there are so many species
+pub record AreBlocksOf (dims species_count : ℕ) (said : List BlockSaid) : Type 0 where
   pub surface_count : length (surface_names said) ≤ most_surfaces
+  pub surfaces : All (IsSurface species_count) (surfaces_of said)
   pub compartment_count : length (compartment_names said) ≤ most_compartments
   pub panel_count : length (panels_of said) ≤ most_panels
   pub panels : All (IsPanel dims (length (surfaces_of said)) (panels_of said)) (panels_of said)
   pub compartments : All (IsCompartment dims (length (surfaces_of said))) (compartments_of said)
-  pub block : IsBlock dims said (block_of said)
+  pub block : IsBlock dims species_count said (block_of said)
 
 -- the same, by the number of axes where it is given. Where it isn't, nothing is said of blocks
-abbrev pub AreBlocks : Option ℕ → List BlockSaid → Type 0
-AreBlocks None said = said ≡ []
-AreBlocks (Some dims) said = AreBlocksOf dims said
+abbrev pub AreBlocks : Option ℕ → ℕ → List BlockSaid → Type 0
+AreBlocks None species_count said = said ≡ []
+AreBlocks (Some dims) species_count said = AreBlocksOf dims species_count said

@@ -73,10 +73,14 @@ impl ActionTable {
     ghost use Rattle.smol_blocks.specs.Surface.{means_face};
     ghost use Rattle.smol_blocks.specs.SurfaceTable.{IsFaceReady};
 
-    /// Both faces let each of this many species through.
+    /// Both faces let each of this many species through, as it is.
     pub fn new(alloc: Global, species: usize) -> Result<ActionTable, AllocError>
-        ensures front { IfOk result (λ table. IsFaceReady table.front species) }
-        ensures back { IfOk result (λ table. IsFaceReady table.back species) }
+        ensures front { IfOk result (λ table. (number : ℕ) → slice_index_or table.front.actions.items number Transmit ≡ Transmit) }
+        ensures back { IfOk result (λ table. (number : ℕ) → slice_index_or table.back.actions.items number Transmit ≡ Transmit) }
+        ensures front_new { IfOk result (λ table. (number : ℕ) → slice_index_or table.front.changes.items number None ≡ None) }
+        ensures back_new { IfOk result (λ table. (number : ℕ) → slice_index_or table.back.changes.items number None ≡ None) }
+        ensures front_ready { IfOk result (λ table. IsFaceReady table.front species) }
+        ensures back_ready { IfOk result (λ table. IsFaceReady table.back species) }
     {
         Ok(ActionTable {
             front: FaceTable::new(alloc, species)?,
@@ -84,8 +88,29 @@ impl ActionTable {
         })
     }
 
-    /// Lets faces do to species what a line says.
+    /// Lets faces do to species what a line says, and make of them what it says.
     pub fn set(&mut self, acting: Acting)
+        requires ordered { acting.who.first ≤ acting.who.end }
+        requires front { acting.who.end ≤ length self.old.front.actions.items }
+        requires back { acting.who.end ≤ length self.old.back.actions.items }
+        requires front_new { acting.who.end ≤ length self.old.front.changes.items }
+        requires back_new { acting.who.end ≤ length self.old.back.changes.items }
+        ensures front { (species : ℕ) → slice_index_or self.new.front.actions.items species Transmit
+            ≡ (if means_face acting.faces Front && is_chosen species acting.who then acting.action
+            else slice_index_or self.old.front.actions.items species Transmit) }
+        ensures back { (species : ℕ) → slice_index_or self.new.back.actions.items species Transmit
+            ≡ (if means_face acting.faces Back && is_chosen species acting.who then acting.action
+            else slice_index_or self.old.back.actions.items species Transmit) }
+        ensures front_new { (species : ℕ) → slice_index_or self.new.front.changes.items species None
+            ≡ (if means_face acting.faces Front && is_chosen species acting.who then acting.new
+            else slice_index_or self.old.front.changes.items species None) }
+        ensures back_new { (species : ℕ) → slice_index_or self.new.back.changes.items species None
+            ≡ (if means_face acting.faces Back && is_chosen species acting.who then acting.new
+            else slice_index_or self.old.back.changes.items species None) }
+        ensures front_count { length self.new.front.actions.items ≡ length self.old.front.actions.items }
+        ensures back_count { length self.new.back.actions.items ≡ length self.old.back.actions.items }
+        ensures front_new_count { length self.new.front.changes.items ≡ length self.old.front.changes.items }
+        ensures back_new_count { length self.new.back.changes.items ≡ length self.old.back.changes.items }
     {
         match acting.faces {
             Faces::Front => self.front.set(acting),

@@ -49,10 +49,11 @@ pub fn panels_of(
 /// The surface whose faces do this.
 pub fn surface_of(actions: ActionTable) -> Surface
     ensures { result ≡ record {
-        front = actions.front.actions.items;
-        back = actions.back.actions.items;
-        front_new = actions.front.changes.items;
-        back_new = actions.back.changes.items } }
+      front = actions.front.actions.items;
+      back = actions.back.actions.items;
+      front_new = actions.front.changes.items;
+      back_new = actions.back.changes.items;
+    } }
 {
     let ActionTable { front, back } = actions;
     Surface {

@@ -142,7 +142,12 @@ fn draft_of(
     requires paired { ArePaired table.panels }
     requires few { others + length table.panels.names ≤ most_panels }
     ensures name { IfOk result (λ draft. draft.name ≡ name.now) }
-    ensures surface { IfOk result (λ draft. draft.surface ≡ record { front = table.actions.front.items; back = table.actions.back.items }) }
+    ensures surface { IfOk result (λ draft. draft.surface ≡ record {
+      front = table.actions.front.actions.items;
+      back = table.actions.back.actions.items;
+      front_new = table.actions.front.changes.items;
+      back_new = table.actions.back.changes.items;
+    }) }
     ensures panels { IfOk result (λ draft. (lines : List SurfaceSaid) → Holds table lines → draft.panels ≡ panels_in surface others lines) }
     ensures count { IfOk result (λ draft. length draft.panels ≡ length table.panels.names) }
 {

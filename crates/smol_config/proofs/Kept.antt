@@ -16,7 +16,7 @@ use Rattle.smol_line.specs.declared.species_word.Chosen.{Chosen}
 use Rattle.smol_line.proofs.Passing.{three}
 use Rattle.smol_blocks.specs.Blocks.{BlockSaid, compartments_of}
 use Rattle.smol_blocks.specs.BlocksSound.{AreBlocks}
-use Rattle.smol_blocks.proofs.SoundBlocks.{axes_given}
+use Rattle.smol_blocks.proofs.SoundBlocks.{axes_given, species_given}
 use Rattle.smol_cmd.proofs.Sound.{commands_stay_sound}
 use Rattle.smol_reactions.specs.ReactionSaid.{ReactionSaid}
 use Rattle.smol_reactions.specs.Sound.{AreReactions}
@@ -78,7 +78,8 @@ axes_kept before dims new least most h the_axes =
 axes_kept before dims new least most h the_order = λ some. absurd (unsettled (axes_of before) new (h the_order some))
 axes_kept before dims new least most h the_reactions =
     dims_keep (Some dims) (length (species_of before)) (reactions_said before) (subst (λ (given : Option ℕ). AreReactions given (length (species_of before)) (reactions_said before)) new (h the_reactions))
-axes_kept before dims new least most h the_blocks = axes_given dims (blocks_said before) (subst (λ (given : Option ℕ). AreBlocks given (blocks_said before)) new (h the_blocks))
+axes_kept before dims new least most h the_blocks =
+    axes_given dims (length (species_of before)) (blocks_said before) (subst (λ (given : Option ℕ). AreBlocks given (length (species_of before)) (blocks_said before)) new (h the_blocks))
 axes_kept before dims new least most h other = h other
 
 pub names_kept : (before : List Said) (more : List (List ℕ)) → length (species_of before) + length more ≤ 256 → IsSoFar before → IsSoFar (names more ∷ before)
@@ -89,6 +90,7 @@ names_kept before more few h = kept (length-append (species_of before) more)
     kept count the_placings =
         All-weaker _ _ (IsPlacing-more (length (species_of before)) (length (species_of before ++ more)) (compartment_count before) (compartment_count before) (walls_of (axes_of before)) (omega arith) (omega arith)) (placings_of before) (h the_placings)
     kept count the_reactions = species_keep (dims_of before) (length (species_of before)) (length (species_of before ++ more)) (reactions_said before) (omega arith) (h the_reactions)
+    kept count the_blocks = species_given (dims_of before) (length (species_of before)) (length (species_of before ++ more)) (blocks_said before) (omega arith) (h the_blocks)
     kept count the_commands =
         commands_more (length (species_of before)) (compartment_count before) (length (outputs_of before)) (length (species_of before ++ more)) (compartment_count before) (length (outputs_of before)) (walls_of (axes_of before)) (omega arith) (omega arith) (omega arith) (commands_of before) (h the_commands)
     kept count other = h other
@@ -117,7 +119,7 @@ pub of_reactions_kept : (before : List Said) (said : ReactionSaid) → AreReacti
 of_reactions_kept before said sound h the_reactions = sound
 of_reactions_kept before said sound h other = h other
 
-pub of_blocks_kept : (before : List Said) (said : BlockSaid) → length (compartments_of (blocks_said before)) ≤ length (compartments_of (said ∷ blocks_said before)) → AreBlocks (dims_of before) (said ∷ blocks_said before) → IsSoFar before → IsSoFar (of_blocks said ∷ before)
+pub of_blocks_kept : (before : List Said) (said : BlockSaid) → length (compartments_of (blocks_said before)) ≤ length (compartments_of (said ∷ blocks_said before)) → AreBlocks (dims_of before) (length (species_of before)) (said ∷ blocks_said before) → IsSoFar before → IsSoFar (of_blocks said ∷ before)
 of_blocks_kept before said grown sound h the_blocks = sound
 of_blocks_kept before said grown sound h the_placings =
     All-weaker _ _ (IsPlacing-more (length (species_of before)) (length (species_of before)) (compartment_count before) (length (compartments_of (said ∷ blocks_said before))) (walls_of (axes_of before)) (omega arith) grown) (placings_of before) (h the_placings)

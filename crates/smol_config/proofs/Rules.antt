@@ -246,9 +246,9 @@ mol_keeps before line one is h =
     (count_in-high 0 1000000 (word_at line 1) n.0 n.1, species_word_in-within (species_of before) (word_at line 2) species.0 species.1, lie.0, lie.1) h)
 
 -- where no block is open, each compartment that is named is there
-compartments_closed : (dims : Option ℕ) (said : List BlockSaid) → AreBlocks dims said → is_outside (block_of said) ≡ true → length (compartment_names said) ≡ length (compartments_of said)
-compartments_closed None said none outside = rw none refl
-compartments_closed (Some dims) said sound outside = let both = outside_equal dims said sound outside in both.1
+compartments_closed : (dims : Option ℕ) (species_count : ℕ) (said : List BlockSaid) → AreBlocks dims species_count said → is_outside (block_of said) ≡ true → length (compartment_names said) ≡ length (compartments_of said)
+compartments_closed None species_count said none outside = rw none refl
+compartments_closed (Some dims) species_count said sound outside = let both = outside_equal dims species_count said sound outside in both.1
 
 compartment_mol_keeps : (before : List Said) (line : Stated) (one : Placing) → compartment_mol_in (axes_of before) (species_of before) (compartment_names (blocks_said before)) line ≡ Ok one → stands_outside before ≡ true → IsSoFar before → IsSoFar (places one ∷ before)
 unfolding compartment_mol_in
@@ -262,7 +262,7 @@ compartment_mol_keeps before line one is outside h =
     let species = valued (species_word_in (species_of before) (word_at line 2)) (inside n.0) one n.2 in
     let compartment = valued (number_in (compartment_names (blocks_said before)) (word_at line 3)) (last n.0 species.0) one species.2 in
     let named = number_in-within (compartment_names (blocks_said before)) (word_at line 3) compartment.0 compartment.1 in
-    let closed = compartments_closed (dims_of before) (blocks_said before) (h the_blocks) outside in
+    let closed = compartments_closed (dims_of before) (length (species_of before)) (blocks_said before) (h the_blocks) outside in
     let made : Placing = placing.InCompartment line.number n.0 species.0 compartment.0 in
     let same : made ≡ one = cc in
     subst (λ (one : Placing). IsSoFar (places one ∷ before)) {x = made} same
@@ -280,7 +280,7 @@ unfolding cmd_in
 cmd_keeps before line command is outside h =
     let dims = valued (needs_walls (axes_of before)) _ command is in
     let sound = commands_are_sound (known_before before) (length (commands_of before)) line command is (h the_axes) in
-    let closed = compartments_closed (dims_of before) (blocks_said before) (h the_blocks) outside in
+    let closed = compartments_closed (dims_of before) (length (species_of before)) (blocks_said before) (h the_blocks) outside in
     performs_kept before command (is_settled (axes_of before) dims.0 dims.1)
     (commands_are_few (known_before before) (length (commands_of before)) line command is)
     (subst (λ (count : ℕ). IsCommand (length (species_of before)) count (length (outputs_of before)) (walls_of (axes_of before)) command) closed sound) h

@@ -16,6 +16,7 @@ use Rattle.smol_types.specs.Placings.{IsPlacing, placed_by}
 use Rattle.smol_types.specs.Reactions.{IsReaction}
 use Rattle.smol_types.specs.Sound.{IsSound}
 use Rattle.smol_types.specs.Steps.{last_step}
+use Rattle.smol_types.specs.Surfaces.{IsSurface}
 use Rattle.smol_types.specs.Walls.{IsAxis, AreWalls}
 use Rattle.smol_line.specs.declared.axes.Bounds.{Bounds}
 use Rattle.smol_line.specs.Axes.{IsBounded, is_walled, walls_of}
@@ -164,10 +165,10 @@ near_all species near =
     (AllPass-from_list_all has_difstep species near)
 
 -- there are no more surfaces and compartments than there may be, whatever block is open
-blocks_fit : (dims : ℕ) (said : List BlockSaid) → AreBlocks (Some dims) said → (length (surfaces_of said) ≤ 256) × (length (compartments_of said) ≤ 64) × AreBlocksOf dims said
-blocks_fit dims said sound = by (block_of said) sound.block
+blocks_fit : (dims species_count : ℕ) (said : List BlockSaid) → AreBlocks (Some dims) species_count said → (length (surfaces_of said) ≤ 256) × (length (compartments_of said) ≤ 64) × AreBlocksOf dims species_count said
+blocks_fit dims species_count said sound = by (block_of said) sound.block
   where
-    by : (block : Block) → IsBlock dims said block → (length (surfaces_of said) ≤ 256) × (length (compartments_of said) ≤ 64) × AreBlocksOf dims said
+    by : (block : Block) → IsBlock dims species_count said block → (length (surfaces_of said) ≤ 256) × (length (compartments_of said) ≤ 64) × AreBlocksOf dims species_count said
     by no_block is = let surfaces = sound.surface_count in let compartments = sound.compartment_count in let a = is.0 in let b = is.1 in (omega arith, omega arith, sound)
     by (in_surface opened lines) is = let surfaces = sound.surface_count in let compartments = sound.compartment_count in let a = is.0 in let b = is.1 in (omega arith, omega arith, sound)
     by (in_compartment opened lines) is = let surfaces = sound.surface_count in let compartments = sound.compartment_count in let a = is.0 in let b = is.1 in (omega arith, omega arith, sound)
@@ -190,7 +191,8 @@ content_is_sound before needed h is few near room words =
     let Placed : ℕ → Type 0 = λ species. All (IsPlacing species (compartment_count before) around) (placings_of before) in
     let Commanded : ℕ → Type 0 = λ species. All (IsCommand species (compartment_count before) (length (outputs_of before)) around) (commands_of before) in
     let Reacting : ℕ → Type 0 = λ species. All (IsReaction needed.dims species) (all_rated (unsigned_abs needed.step) (reactions_of (reactions_said before))) in
-    let blocks = blocks_fit needed.dims (blocks_said before) (rw given.0 at (h the_blocks)) in
+    let Faced : ℕ → Type 0 = λ species. All (IsSurface species) (surfaces_of (blocks_said before)) in
+    let blocks = blocks_fit needed.dims (length (species_of before)) (blocks_said before) (rw given.0 at (h the_blocks)) in
     let few_species = (h the_species) in record {
       dims_above = axes.0;
       dims_below = axes.1;
@@ -199,6 +201,7 @@ content_is_sound before needed h is few near room words =
       walls = walls.0;
       wall_count = walls.1;
       surface_count = blocks.0;
+      surfaces = subst Faced (sym count) blocks.2.surfaces;
       panel_count = blocks.2.panel_count;
       panels = blocks.2.panels;
       compartment_count = blocks.1;

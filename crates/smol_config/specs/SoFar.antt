@@ -47,7 +47,7 @@ Stands the_order before = 0 < length (placings_of before) + length (commands_of 
 Stands the_placings before =
     All (IsPlacing (length (species_of before)) (compartment_count before) (walls_of (axes_of before))) (placings_of before)
 Stands the_reactions before = AreReactions (dims_of before) (length (species_of before)) (reactions_said before)
-Stands the_blocks before = AreBlocks (dims_of before) (blocks_said before)
+Stands the_blocks before = AreBlocks (dims_of before) (length (species_of before)) (blocks_said before)
 Stands the_outputs before = length (outputs_of before) ≤ most_outputs
 Stands the_command_count before = length (commands_of before) ≤ most_commands
 Stands the_commands before =

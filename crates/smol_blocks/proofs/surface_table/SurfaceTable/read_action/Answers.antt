@@ -14,4 +14,4 @@ returns-in_err-acting-clause-reads c =
 pub returns-clause-reads : goal.returns-clause-reads
 unfolding surface_line_in
 returns-clause-reads c before holds =
-    (acts c.in_ok-acting.acting, ap (say acts) (sym c.in_ok-acting.ensures.rule), acts_held c.args.self.now before c.in_ok-acting.acting c.set.new.self c.set.ensures.front c.set.ensures.back holds)
+    (acts c.in_ok-acting.acting, ap (say acts) (sym c.in_ok-acting.ensures.rule), acts_held c.args.self.now before c.in_ok-acting.acting c.set.new.self c.set.ensures.front c.set.ensures.back c.set.ensures.front_new c.set.ensures.back_new holds)
