@@ -75,14 +75,16 @@ class Model:
             self.walls.append({"axis": AXES[words[0]], "at": float(word), "upper": upper, "letter": (words + ["t"])[3]})
 
     def read_start_surface(self, _, words):
-        self.surfaces.append({"name": words[0], "front": {}, "back": {}})
+        self.surfaces.append({"name": words[0], "front": {}, "back": {}, "front_new": {}, "back_new": {}})
         self._panels_of_surface = {}
 
     def read_action(self, _, words):
         face, who = words[:2] if words[0] in FACES else reversed(words[:2])
+        new = self._who(words[3])[0] if len(words) == 4 else None
         for name in FACES[face]:
             for species in self._who(who):
                 self.surfaces[-1][name][species] = ACTIONS[words[2]]
+                self.surfaces[-1][name + "_new"][species] = new
 
     def read_panel(self, number, words):
         axis = AXES[words[1][1:]]

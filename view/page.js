@@ -181,10 +181,11 @@ async function start() {
   }
 
   function deed(panel, face, species) {
-    const action = actionOf(model, panel, face, species);
-    if (action !== "j") return ACTIONS[action].name;
+    const action = actionOf(model, panel, face, species), made = madeOf(model, panel, face, species);
+    const as = made === species ? "" : `, as ${model.species[made]}`;
+    if (action !== "j") return ACTIONS[action].name + as;
     const [number, toFace] = panel.to[face];
-    return `jump to ${model.panels[number].name}, ${toFace}`;
+    return `jump to ${model.panels[number].name}, ${toFace}${as}`;
   }
 
   function short(number) {

@@ -24,6 +24,13 @@ const actionOf = (model, panel, face, species) => {
   return action === "j" && !panel.to[face] ? "t" : action;
 };
 
+// The species that a face of a panel makes of a species on which it acts, by its number: that species itself where none is named, and
+// where a jump leads nowhere.
+const madeOf = (model, panel, face, species) => {
+  const { [face]: actions, [`${face}_new`]: made = {} } = model.surfaces[panel.surface];
+  return actions[species] === "j" && !panel.to[face] ? species : made[species] ?? species;
+};
+
 // Whether WebGL is drawn by a processor, for want of a graphics card; null where there is no WebGL at all.
 function isDrawnByProcessor() {
   const context = document.createElement("canvas").getContext("webgl2");
