@@ -15,7 +15,7 @@ use Rattle.smol_num.specs.Decimal.{decimal_of}
 use Rattle.smol_blocks.specs.Statement.{statement_of}
 use Rattle.smol_blocks.specs.Surface.{surface_line_in, surface_of}
 use Rattle.smol_blocks.specs.Faces.{faces_named}
-use Rattle.smol_blocks.specs.Action.{action_named, action_in}
+use Rattle.smol_blocks.specs.Action.{action_named, action_in, new_in}
 use Rattle.smol_blocks.specs.Blocks.{block_line_in, block_of, opening_line, panels_in, start_surface_in}
 use Rattle.smol_blocks.specs.Panel.{rect_in, shape_in, default_name, name_in, panel_in}
 use Rattle.smol_blocks.specs.BlockName.{block_name_in}
@@ -148,7 +148,7 @@ pub record AreRead (n : ℕ) : Type 0 where
   pub names : species_of (box_said n) ≡ three_names
 
 box_facts : (n : ℕ) → AreRead n
-unfolding line_in statement_in statement_of words_in dim_in species_in difstep_in max_mol_in letter_in bounds_in boundaries_in decimal_of axis_named read_axes surface_line_in surface_of faces_named action_named action_in panels_in start_surface_in block_line_in rect_in shape_in default_name name_in panel_in block_name_in given_time_in time_step_in digits
+unfolding line_in statement_in statement_of words_in dim_in species_in difstep_in max_mol_in letter_in bounds_in boundaries_in decimal_of axis_named read_axes surface_line_in surface_of faces_named action_named action_in new_in panels_in start_surface_in block_line_in rect_in shape_in default_name name_in panel_in block_name_in given_time_in time_step_in digits
 box_facts n = record {
   reads = refl;
   outside = refl;
@@ -172,7 +172,7 @@ room_for n few = le-leb (0 + n / 2 + (n - n / 2)) 1000000 (omega arith)
 -- the last lines are read, and all lines say a configuration
 binding_facts : (n : ℕ) → n ≤ 1000000
     → (read_from (placed_said n) (numbered 25 binding_lines) ≡ Ok (all_said n)) × IsOk (whole_in (all_said n))
-unfolding line_in statement_in statement_of words_in dim_in species_in difstep_in max_mol_in letter_in bounds_in boundaries_in decimal_of axis_named read_axes surface_line_in surface_of faces_named action_named action_in panels_in start_surface_in block_line_in rect_in shape_in default_name name_in panel_in block_name_in given_time_in time_step_in cmd_in act_in verb_in print_in printing_in outlet_in timing_in due_in when_in condition_in test_in sides_in reaction_in binding_radius_in left_in right_in arrangement_in needed_from content_of digits
+unfolding line_in statement_in statement_of words_in dim_in species_in difstep_in max_mol_in letter_in bounds_in boundaries_in decimal_of axis_named read_axes surface_line_in surface_of faces_named action_named action_in new_in panels_in start_surface_in block_line_in rect_in shape_in default_name name_in panel_in block_name_in given_time_in time_step_in cmd_in act_in verb_in print_in printing_in outlet_in timing_in due_in when_in condition_in test_in sides_in reaction_in binding_radius_in left_in right_in arrangement_in needed_from content_of digits
 binding_facts n few = (refl, ap is_ok (whole_accepted (all_said n) _ refl refl refl refl refl refl (room_for n few)))
 
 -- the line of the seed, and those of the molecules
